@@ -1,0 +1,21 @@
+-- What a task is: Fisher, Baruah and Baker, ECRTS 2006, section 2.1, in whole slots and in the box's ranges.
+use mathlib.Core.Path.{_≡_}
+use Prim.Native.Nat.{ℕ, _*_, _%_, _≤_}
+use Rattle.tasks.specs.declared.record.TaskRecord.{TaskRecord}
+
+-- The bounds on work, limit and gap, where `widest` is the widest gap allowed.
+abbrev pub Bounded : ℕ → TaskRecord → Type 0
+Bounded widest t =
+    (1 ≤ t .work) × (t .work ≤ t .limit) × (t .work ≤ t .gap) × (t .gap ≤ widest) × (t .limit ≤ 1048576) × (t .limit ≤ 4 * t .gap)
+
+-- The widest grid a list may have, and so the widest gap a task may have.
+abbrev pub widest-grid : ℕ
+widest-grid = 16777216
+
+-- The gap divides the grid.
+abbrev pub OnGrid : ℕ → TaskRecord → Type 0
+OnGrid grid t = grid % t .gap ≡ 0
+
+-- A task of a list with this grid.
+abbrev pub Lawful : ℕ → TaskRecord → Type 0
+Lawful grid t = Bounded grid t × OnGrid grid t

@@ -1,0 +1,3 @@
+// Tasks and task lists, and reading them from a sheet.
+pub mod fault;
+pub mod record;
