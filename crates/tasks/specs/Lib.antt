@@ -1,2 +1,5 @@
 pub mod Codes
+pub mod Filling
+pub mod List
+pub mod Steps
 pub mod Task

@@ -1,0 +1,49 @@
+// What a table does.
+ghost use mathlib.Core.Path.{_≡_};
+ghost use mathlib.Core.List.{[]};
+ghost use lib.ListN.{length};
+ghost use Rattle.tasks.specs.List.{held};
+ghost use Rattle.tasks.specs.Steps.{Pushed};
+use crate::fault::ListFault;
+use crate::record::TaskRecord;
+use crate::table::BLANK;
+use crate::table::MOST_TASKS;
+use crate::table::Table;
+
+impl Table {
+    // A table that holds nothing.
+    pub fn empty() -> Table
+        ensures { λ r. ⌜ held r ≡ [] ⌝ }
+    {
+        Table {
+            places: [BLANK; MOST_TASKS],
+            len: 0,
+        }
+    }
+
+    // How many records it holds.
+    pub fn len(&self) -> usize
+        ensures { λ r. ⌜ r ≡ length (held (now (self .entry))) ⌝ }
+    {
+        self.len
+    }
+
+    // One record more at the end, or a refusal where every place is taken.
+    pub fn push(&mut self, numbers: TaskRecord) -> Result<(), ListFault>
+        ensures { λ r. ⌜ Pushed numbers (now (self .entry)) r (now (self .exit)) ⌝ }
+    {
+        if self.len >= MOST_TASKS {
+            return Err(ListFault::TooMany);
+        }
+        self.places[self.len] = numbers;
+        self.len += 1;
+        Ok(())
+    }
+
+    // What it holds, in order.
+    pub fn records(&self) -> &[TaskRecord]
+        ensures { λ r. ⌜ now r ≡ held (now (self .entry)) ⌝ }
+    {
+        &self.places[0..self.len]
+    }
+}
