@@ -29,6 +29,6 @@ module _ (P : TaskRecord → Type 0) where
       go (inr new) bound = subst P (sym (getD-push xs t blank k (omega arith))) here
 
   pub each-pushed : (t : TaskRecord) (before : Table) (r : Result (Unit {0}) ListFault) (after : Table)
-    → Pushed t before r after → Each (held before) → P t → Each (held after)
+      → Pushed t before r after → Each (held before) → P t → Each (held after)
   each-pushed t before (Ok u) after pushed all here = subst Each (sym (pushed .1)) (each-push (held before) t all here)
   each-pushed t before (Err f) after pushed all here = subst (λ table. Each (held table)) (sym (pushed .2)) all

@@ -7,8 +7,16 @@ pub ghost-self : need.ghost-self
 ghost-self c =
     let list = c .args .self .now in
     let t = c .args .numbers in
-    let kept = c .if-not-bounded .ensures tt .0 refl in
-    (list .«grid_range», (list .«lane_range»,
-      (each-pushed Work-fits t (list .table) (c .push .result) (c .push .last .self) (c .push .ensures) (list .works) (kept .0),
-       (each-pushed (In-ranges (list .grid)) t (list .table) (c .push .result) (c .push .last .self) (c .push .ensures) (list .ranges) (kept .1),
-        (each-pushed (OnGrid (list .grid)) t (list .table) (c .push .result) (c .push .last .self) (c .push .ensures) (list .«on_grid») (c .if-self-numbers-ne0 .left), tt)))))
+    let kept = c .if-not-bounded .ensures tt .0 refl in (
+      list .«grid_range»,
+      (
+        list .«lane_range»,
+        (
+          each-pushed Work-fits t (list .table) (c .push .result) (c .push .last .self) (c .push .ensures) (list .works) (kept .0),
+          (
+            each-pushed (In-ranges (list .grid)) t (list .table) (c .push .result) (c .push .last .self) (c .push .ensures) (list .ranges) (kept .1),
+            (each-pushed (OnGrid (list .grid)) t (list .table) (c .push .result) (c .push .last .self) (c .push .ensures) (list .«on_grid») (c .if-self-numbers-ne0 .left), tt),
+          ),
+        ),
+      ),
+    )
