@@ -10,7 +10,7 @@ use Rattle.std.proofs.shelf.Tests.{cases-lt}
 use Rattle.std.specs.declared.result.Result.{Result}
 use Rattle.std.specs.declared.result.Result.the-variants.{Ok, Err}
 use Rattle.tasks.specs.List.{held, blank}
-use Rattle.tasks.specs.Steps.{Pushed}
+use Rattle.tasks.specs.Tables.{Pushed}
 use Rattle.tasks.specs.declared.fault.ListFault.{ListFault}
 use Rattle.tasks.specs.declared.record.TaskRecord.{TaskRecord}
 use Rattle.tasks.specs.declared.table.Table.{Table}

@@ -6,9 +6,11 @@ ghost use lib.ListN.{length, getD};
 ghost use Rattle.std.specs.Options.{Cases};
 ghost use Rattle.tasks.specs.Filling.{Added, Emptied, Is-list, tasks-of};
 ghost use Rattle.tasks.specs.List.{blank};
+ghost use Rattle.tasks.specs.Order.{rank-of};
 use crate::fault::ListFault;
 use crate::fault::Setting;
 use crate::list::TaskList;
+use crate::order::Rank;
 use crate::record::TaskRecord;
 use crate::table::MOST_TASKS;
 use crate::table::Table;
@@ -91,5 +93,32 @@ impl TaskList {
         ensures { λ r. ⌜ now r ≡ tasks-of (now (self .entry)) ⌝ }
     {
         self.table.records()
+    }
+
+    // The task with this number, if there is one.
+    pub fn task(&self, number: usize) -> Option<Task>
+        ensures { λ r. ⌜ Cases r (length (tasks-of (now (self .entry))) ≤ number) (λ t. (number < length (tasks-of (now (self .entry)))) × (t .numbers ≡ getD (tasks-of (now (self .entry))) number blank)) ⌝ }
+    {
+        let records = self.table.records();
+        if number < records.len() {
+            Task::new(records[number])
+        } else {
+            None
+        }
+    }
+
+    // Where the task with this number stands in the order of tasks, if there is one.
+    pub fn rank(&self, number: usize) -> Option<Rank>
+        ensures { λ r. ⌜ Cases r (length (tasks-of (now (self .entry))) ≤ number) (λ rank. (number < length (tasks-of (now (self .entry)))) × (rank ≡ rank-of (tasks-of (now (self .entry))) number)) ⌝ }
+    {
+        let records = self.table.records();
+        if number < records.len() {
+            Some(Rank {
+                limit: records[number].limit,
+                number,
+            })
+        } else {
+            None
+        }
     }
 }

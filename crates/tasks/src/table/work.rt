@@ -3,7 +3,7 @@ ghost use mathlib.Core.Path.{_≡_};
 ghost use mathlib.Core.List.{[]};
 ghost use lib.ListN.{length};
 ghost use Rattle.tasks.specs.List.{held};
-ghost use Rattle.tasks.specs.Steps.{Pushed};
+ghost use Rattle.tasks.specs.Tables.{Pushed};
 use crate::fault::ListFault;
 use crate::record::TaskRecord;
 use crate::table::BLANK;

@@ -1,0 +1,26 @@
+// The order of tasks.
+ghost use Rattle.std.specs.Orderings.{Decides};
+ghost use Rattle.tasks.specs.Order.{Goes-before, Strict-order};
+
+// What the order of tasks looks at: the lower limit goes first, then the lower number.
+#[derive(Clone, Copy, PartialEq, Eq, Debug)]
+pub struct Rank {
+    pub limit: u32,
+    pub number: usize,
+}
+
+impl Rank {
+    // Whether this task goes before the other.
+    pub fn goes_before(&self, other: &Rank) -> bool
+        ensures { λ r. ⌜ Decides r (Goes-before (now (self .entry)) (now (other .entry))) ⌝ }
+    {
+        self.limit < other.limit || self.limit == other.limit && self.number < other.number
+    }
+}
+
+// The order of tasks is strict, and it orders any two tasks of a list.
+pub fn tasks_have_one_order() -> bool
+    ensures { λ _. ⌜ Strict-order ⌝ }
+{
+    true
+}
