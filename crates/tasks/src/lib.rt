@@ -2,6 +2,7 @@
 pub mod fault;
 pub mod list;
 pub mod order;
+pub mod read;
 pub mod record;
 pub mod table;
 pub mod task;
