@@ -55,3 +55,28 @@ fn scan<'a>(
     }
     Ok(name)
 }
+
+impl TaskList {
+    // Makes this the list that the sheet spells. A refused read leaves it as it was.
+    pub fn read(&mut self, bytes: &[u8]) -> Result<(), ListFault>
+        ensures { λ r. ⌜ List-read (now (bytes .entry)) (now (self .entry)) r (now (self .exit)) ⌝ }
+    {
+        let mut fresh = TaskList::new();
+        // No task has this number, so no name is looked for.
+        scan(bytes, MOST_TASKS, &mut fresh)?;
+        *self = fresh;
+        Ok(())
+    }
+}
+
+// The name of a task in the sheet, if it has one, as that part of the sheet's bytes.
+pub fn name<'a>(bytes: &'a [u8], task: usize) -> Result<Option<Part<'a>>, ListFault>
+    ensures { λ r. ⌜ Name-read (now (bytes .entry)) task r ⌝ }
+{
+    let mut list = TaskList::new();
+    let name = scan(bytes, task, &mut list)?;
+    if task >= list.len() {
+        return Err(ListFault::Sheet(SheetFault::NoTask(task)));
+    }
+    Ok(name)
+}
