@@ -1,6 +1,6 @@
 // The order of tasks.
-ghost use Rattle.std.specs.Orderings.{Decides};
-ghost use Rattle.tasks.specs.Order.{Goes-before, Strict-order};
+ghost use mathlib.Core.Path.{_≡_};
+ghost use Rattle.tasks.specs.Order.{Strict-order, goes-before};
 
 // What the order of tasks looks at: the lower limit goes first, then the lower number.
 #[derive(Clone, Copy, PartialEq, Eq, Debug)]
@@ -12,7 +12,7 @@ pub struct Rank {
 impl Rank {
     // Whether this task goes before the other.
     pub fn goes_before(&self, other: &Rank) -> bool
-        ensures { λ r. ⌜ Decides r (Goes-before (now (self .entry)) (now (other .entry))) ⌝ }
+        ensures { λ r. ⌜ r ≡ goes-before (now (self .entry)) (now (other .entry)) ⌝ }
     {
         self.limit < other.limit || self.limit == other.limit && self.number < other.number
     }
