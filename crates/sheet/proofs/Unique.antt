@@ -43,3 +43,47 @@ entry-once e e′ more more′ same =
   where
     tail-once : {x x′ : ℕ} {xs xs′ : List ℕ} → x ∷ xs ≡ x′ ∷ xs′ → xs ≡ xs′
     tail-once p = cc
+
+-- A frame is that of one grid, one lane count and one run of records.
+pub frame-once : (bytes : List ℕ) (grid grid′ lanes lanes′ : ℕ) (records records′ : List ℕ)
+    → Frame bytes grid lanes records → Frame bytes grid′ lanes′ records′ → (grid ≡ grid′) × (lanes ≡ lanes′) × (records ≡ records′)
+frame-once bytes grid grid′ lanes lanes′ records records′ f f′ =
+    let g = four-bytes-once grid grid′ (lanes ∷ records) (lanes′ ∷ records′) (after-three both) in
+    let same : lanes ∷ records ≡ lanes′ ∷ records′ = g .1 in
+    (g .0, cc, cc)
+  where
+    both : sheet-bytes (body-bytes grid lanes records) ≡ sheet-bytes (body-bytes grid′ lanes′ records′)
+    both = sym (f .spelled) ∙ f′ .spelled
+
+    after-three : {a b c a′ b′ c′ : ℕ} {xs xs′ : List ℕ} → a ∷ b ∷ c ∷ xs ≡ a′ ∷ b′ ∷ c′ ∷ xs′ → xs ≡ xs′
+    after-three p = cc
+
+module _ (bytes : List ℕ) (grid lanes : ℕ) (records : List ℕ) (frame : Frame bytes grid lanes records) where
+  framed-version : getD bytes 0 0 ≡ 1
+  framed-version = ap (λ bs. getD bs 0 0) (frame .spelled)
+
+  framed-length : length bytes ≡ 3 + claimed-length bytes
+  framed-length =
+      let body = body-bytes grid lanes records in
+      let long : length (sheet-bytes body) ≡ 3 + claimed-length (sheet-bytes body) = omega arith in
+      subst (λ bs. length bs ≡ 3 + claimed-length bs) (sym (frame .spelled)) long
+
+  framed-room : 5 ≤ claimed-length bytes
+  framed-room =
+      let body = body-bytes grid lanes records in
+      let room : 5 ≤ claimed-length (sheet-bytes body) = omega arith in
+      subst (λ bs. 5 ≤ claimed-length bs) (sym (frame .spelled)) room
+
+  framed-whole : Too-short bytes → ⊥
+  framed-whole (inl short) = omega (arith, framed-length)
+  framed-whole (inr short) = omega (arith, framed-length)
+
+  -- Bytes with a frame have no fault of the frame.
+  pub framed-faultless : (fault : SheetFault) → No-frame bytes fault → ⊥
+  framed-faultless (Short present) none = framed-whole (none .0)
+  framed-faultless Version none = none .1 framed-version
+  framed-faultless (Trailing first) none = omega (arith, framed-length, none .2, none .3)
+  framed-faultless ShortBody none = omega (arith, framed-room, none .2)
+  framed-faultless (RecordLength at) none = elim none [ ]
+  framed-faultless (NameByte at) none = elim none [ ]
+  framed-faultless (NoTask task) none = elim none [ ]
