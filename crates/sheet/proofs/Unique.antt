@@ -1,13 +1,15 @@
 -- Bytes spell a sheet, or a record at their front, in one way, have one fault, and never both.
 use mathlib.Core.Path.{_≡_, refl, sym, ap, subst, _∙_}
 use mathlib.Core.Logic.{_⊎_, _≢_, inl, inr}
+use mathlib.Core.Bool.{cond}
 use mathlib.Core.List.{List, [], _∷_, _++_}
 use Prim.Native.Nat.{ℕ, _+_, _-_, _*_, _/_, _%_, _<_, _≤_}
 use native.Mathlib.Omega.{arith}
+use lib.Dec.{eqb, ltb}
 use lib.ListN.{length, getD, take, drop}
 use Rattle.std.proofs.shelf.Elements.{all-getD}
 use Rattle.std.proofs.shelf.Lists.{drop-at, getD-take, length-append, length-take-le, take-at}
-use Rattle.std.proofs.shelf.Tests.{cases-order}
+use Rattle.std.proofs.shelf.Tests.{cases-lt, cases-order, cond-false, cond-true, eq-eqb, le-ltb, lt-ltb, ne-eqb}
 use Rattle.std.specs.shelf.Lists.{All}
 use Rattle.sheet.specs.Refusals.{Bad-length, Bad-name-byte, No-frame, No-record, Too-short, claimed-length, name-bytes}
 use Rattle.sheet.specs.Spelling.{Entry, Frame, Printable, Spellable, body-bytes, entry-bytes, four-bytes, sheet-bytes}
@@ -87,3 +89,113 @@ module _ (bytes : List ℕ) (grid lanes : ℕ) (records : List ℕ) (frame : Fra
   framed-faultless (RecordLength at) none = elim none [ ]
   framed-faultless (NameByte at) none = elim none [ ]
   framed-faultless (NoTask task) none = elim none [ ]
+
+too-short : (bytes : List ℕ) → Too-short bytes → length bytes < 3 + claimed-length bytes
+too-short bytes (inl short) = omega arith
+too-short bytes (inr short) = omega arith
+
+long-enough : (bytes : List ℕ) → (Too-short bytes → ⊥) → 3 + claimed-length bytes ≤ length bytes
+long-enough bytes whole = go (cases-lt (length bytes) (3 + claimed-length bytes))
+  where
+    go : (length bytes < 3 + claimed-length bytes) ⊎ (3 + claimed-length bytes ≤ length bytes) → 3 + claimed-length bytes ≤ length bytes
+    go (inl short) = absurd (whole (inr short))
+    go (inr long) = long
+
+-- The fault of bytes that have no frame, found by tests.
+abbrev frame-fault : List ℕ → SheetFault
+frame-fault bytes =
+    cond (ltb (length bytes) (3 + claimed-length bytes)) (Short (length bytes))
+    (cond (eqb (getD bytes 0 0) 1) (cond (ltb (3 + claimed-length bytes) (length bytes)) (Trailing (3 + claimed-length bytes)) ShortBody) Version)
+
+frame-fault-is : (bytes : List ℕ) (fault : SheetFault) → No-frame bytes fault → frame-fault bytes ≡ fault
+frame-fault-is bytes (Short present) none = cond-true _ _ _ (lt-ltb _ _ (too-short bytes (none .0))) ∙ ap Short (sym (none .1))
+frame-fault-is bytes Version none =
+    cond-false _ _ _ (le-ltb _ _ (long-enough bytes (none .0))) ∙ cond-false _ _ _ (ne-eqb _ _ (none .1))
+frame-fault-is bytes (Trailing first) none =
+    let past : 3 + claimed-length bytes < length bytes = omega (arith, none .2, none .3) in
+    let long : 3 + claimed-length bytes ≤ length bytes = omega arith in
+    cond-false _ _ _ (le-ltb _ _ long) ∙ cond-true _ _ _ (eq-eqb _ _ (none .1)) ∙ cond-true _ _ _ (lt-ltb _ _ past) ∙ ap Trailing (sym (none .2))
+frame-fault-is bytes ShortBody none =
+    let long : 3 + claimed-length bytes ≤ length bytes = omega (arith, none .1) in
+    let ends : length bytes ≤ 3 + claimed-length bytes = omega (arith, none .1) in
+    cond-false _ _ _ (le-ltb _ _ long) ∙ cond-true _ _ _ (eq-eqb _ _ (none .0)) ∙ cond-false _ _ _ (le-ltb _ _ ends)
+frame-fault-is bytes (RecordLength at) none = elim none [ ]
+frame-fault-is bytes (NameByte at) none = elim none [ ]
+frame-fault-is bytes (NoTask task) none = elim none [ ]
+
+-- Bytes without a frame have one fault.
+pub frame-fault-once : (bytes : List ℕ) (fault fault′ : SheetFault) → No-frame bytes fault → No-frame bytes fault′ → fault ≡ fault′
+frame-fault-once bytes fault fault′ none none′ = sym (frame-fault-is bytes fault none) ∙ frame-fault-is bytes fault′ none′
+
+module _ (e : Entry) (more : List ℕ) (fits : Spellable e) where
+  entry-whole : Bad-length (entry-bytes e ++ more) → ⊥
+  entry-whole (inl few) = omega arith
+  entry-whole (inr (inl many)) = let short = fits .name-fits in omega arith
+  entry-whole (inr (inr past)) = let long = length-append (e .name) more in omega arith
+
+  entry-name : name-bytes (entry-bytes e ++ more) ≡ e .name
+  entry-name = take-at (e .name) more (12 + length (e .name) - 12) (omega arith)
+
+  -- A record at the front has no fault.
+  pub entry-faultless : (at : ℕ) (records : List ℕ) (fault : SheetFault) → records ≡ entry-bytes e ++ more → No-record at records fault → ⊥
+  entry-faultless at records (RecordLength place) spelled none = entry-whole (subst Bad-length spelled (none .0))
+  entry-faultless at records (NameByte place) spelled none =
+      let i = none .0 in
+      let name : name-bytes records ≡ e .name = ap name-bytes spelled ∙ entry-name in
+      let inside : i < length (e .name) = subst (λ bs. i < length bs) name (none .1 .inside) in
+      none .1 .bad (subst (λ bs. Printable (getD bs i 0)) (sym name) (all-getD Printable (e .name) i 0 inside (fits .name-prints)))
+  entry-faultless at records (Short present) spelled none = elim none [ ]
+  entry-faultless at records Version spelled none = elim none [ ]
+  entry-faultless at records (Trailing first) spelled none = elim none [ ]
+  entry-faultless at records ShortBody spelled none = elim none [ ]
+  entry-faultless at records (NoTask task) spelled none = elim none [ ]
+
+-- Past the last record there is no fault.
+pub end-faultless : (at : ℕ) (fault : SheetFault) → No-record at [] fault → ⊥
+end-faultless at (RecordLength place) none = elim (none .0) [ ]
+end-faultless at (NameByte place) none = omega (arith, none .1 .inside)
+end-faultless at (Short present) none = elim none [ ]
+end-faultless at Version none = elim none [ ]
+end-faultless at (Trailing first) none = elim none [ ]
+end-faultless at ShortBody none = elim none [ ]
+end-faultless at (NoTask task) none = elim none [ ]
+
+module _ (records : List ℕ) where
+  first-bad : (i i′ : ℕ) → Bad-name-byte records i → Bad-name-byte records i′ → i < i′ → ⊥
+  first-bad i i′ b b′ before =
+      let name = name-bytes records in
+      let within = b′ .inside in
+      let long : length (take i′ name) ≡ i′ = length-take-le i′ name (omega arith) in
+      let fine = all-getD Printable (take i′ name) i 0 (omega arith) (b′ .fine-before) in
+      b .bad (subst Printable (getD-take i′ name i 0 before) fine)
+
+  bad-name-once : (i i′ : ℕ) → Bad-name-byte records i → Bad-name-byte records i′ → i ≡ i′
+  bad-name-once i i′ b b′ = go (cases-order i i′)
+    where
+      go : (i ≡ i′) ⊎ ((i < i′) ⊎ (i′ < i)) → i ≡ i′
+      go (inl same) = same
+      go (inr (inl before)) = absurd (first-bad i i′ b b′ before)
+      go (inr (inr after)) = absurd (first-bad i′ i b′ b after)
+
+  module _ (at : ℕ) where
+    abbrev Fault-there : SheetFault → Type 0
+    Fault-there fault = (Bad-length records × (fault ≡ RecordLength at)) ⊎ ((i : ℕ) × Bad-name-byte records i × (fault ≡ NameByte (at + 13 + i)))
+
+    fault-there : (fault : SheetFault) → No-record at records fault → Fault-there fault
+    fault-there (RecordLength place) none = inl (none .0, ap RecordLength (none .1))
+    fault-there (NameByte place) none = inr (none .0, none .1, ap NameByte (none .2))
+    fault-there (Short present) none = elim none [ ]
+    fault-there Version none = elim none [ ]
+    fault-there (Trailing first) none = elim none [ ]
+    fault-there ShortBody none = elim none [ ]
+    fault-there (NoTask task) none = elim none [ ]
+
+    -- Bytes that begin with no record have one fault.
+    pub record-fault-once : (fault fault′ : SheetFault) → No-record at records fault → No-record at records fault′ → fault ≡ fault′
+    record-fault-once fault fault′ none none′ = go (fault-there fault none) (fault-there fault′ none′)
+      where
+        go : Fault-there fault → Fault-there fault′ → fault ≡ fault′
+        go (inl b) (inl b′) = b .1 ∙ sym (b′ .1)
+        go (inl b) (inr b′) = absurd (b′ .1 .whole (b .0))
+        go (inr b) (inl b′) = absurd (b .1 .whole (b′ .0))
+        go (inr b) (inr b′) = b .2 ∙ ap (λ i. NameByte (at + 13 + i)) (bad-name-once (b .0) (b′ .0) (b .1) (b′ .1)) ∙ sym (b′ .2)
