@@ -1,3 +1,4 @@
 pub mod Records
 pub mod Scan
 pub mod Tables
+pub mod Unique

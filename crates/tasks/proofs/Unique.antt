@@ -1,0 +1,78 @@
+-- Two ways to read the same records agree as far as both go, and only one fault can end them.
+use mathlib.Core.Path.{_≡_, refl, sym, ap, ap₂, subst, _∙_}
+use mathlib.Core.Logic.{_⊎_, inl, inr}
+use mathlib.Core.List.{List, [], _∷_, _++_, append-assoc}
+use Prim.Native.Nat.{ℕ, _+_, _<_, _≤_}
+use native.Mathlib.Omega.{arith}
+use lib.ListN.{length}
+use Rattle.sheet.proofs.Unique.{end-faultless, entry-faultless, entry-once, record-fault-once}
+use Rattle.sheet.specs.Spelling.{Entry, Spellable, entry-bytes, records-bytes}
+use Rattle.std.proofs.shelf.Lists.{length-map}
+use Rattle.std.specs.shelf.Lists.{All}
+use Rattle.tasks.specs.Reading.{No-next-task, numbers-said, tasks-said}
+use Rattle.tasks.specs.Task.{Bounded, Lawful, OnGrid}
+use Rattle.tasks.specs.declared.fault.ListFault.{ListFault}
+use Rattle.tasks.specs.declared.fault.ListFault.the-variants.{Sheet, TooMany, OutOfRange, Bound, OffGrid}
+use Rattle.tasks.specs.declared.record.TaskRecord.{TaskRecord}
+
+nothing-there : (e : Entry) (more : List ℕ) → [] ≡ entry-bytes e ++ more → ⊥
+nothing-there e more none = let long : _≡_ {A = ℕ} 0 (length (entry-bytes e ++ more)) = ap length none in omega arith
+
+-- At `rest`, after these entries, the next one of a longer list stands.
+pub record Goes-on (grid : ℕ) (entries longer : List Entry) (rest : List ℕ) : Type 0 where
+  pub next : Entry
+  pub more : List ℕ
+  pub spelled : rest ≡ entry-bytes next ++ more
+  pub spellable : Spellable next
+  pub lawful : Lawful grid (numbers-said next)
+  pub fewer : length entries < length longer
+
+module _ (grid : ℕ) where
+  abbrev Lawful-entry : Entry → Type 0
+  Lawful-entry e = Lawful grid (numbers-said e)
+
+  abbrev pub Agree : List Entry → List Entry → List ℕ → List ℕ → Type 0
+  Agree es es′ rest rest′ = ((es ≡ es′) × (rest ≡ rest′)) ⊎ (Goes-on grid es es′ rest ⊎ Goes-on grid es′ es rest′)
+
+  agree-more : (e e′ : Entry) (es es′ : List Entry) (rest rest′ : List ℕ) → e ≡ e′ → Agree es es′ rest rest′ → Agree (e ∷ es) (e′ ∷ es′) rest rest′
+  agree-more e e′ es es′ rest rest′ same (inl (both)) = inl (ap₂ _∷_ same (both .0), both .1)
+  agree-more e e′ es es′ rest rest′ same (inr (inl on)) =
+      inr (inl (record { next = on .next; more = on .more; spelled = on .spelled; spellable = on .spellable; lawful = on .lawful; fewer = let f = on .fewer in omega arith }))
+  agree-more e e′ es es′ rest rest′ same (inr (inr on)) =
+      inr (inr (record { next = on .next; more = on .more; spelled = on .spelled; spellable = on .spellable; lawful = on .lawful; fewer = let f = on .fewer in omega arith }))
+
+  -- Entries that begin the same records agree as far as both go.
+  pub agree : (es es′ : List Entry) (rest rest′ : List ℕ) → All Spellable es → All Lawful-entry es → All Spellable es′ → All Lawful-entry es′
+      → records-bytes es ++ rest ≡ records-bytes es′ ++ rest′ → Agree es es′ rest rest′
+  agree [] [] rest rest′ s l s′ l′ same = inl (refl, same)
+  agree [] (e′ ∷ es′) rest rest′ s l s′ l′ same =
+      inr (inl (record { next = e′; more = records-bytes es′ ++ rest′; spelled = same ∙ append-assoc (entry-bytes e′) (records-bytes es′) rest′; spellable = s′ .0; lawful = l′ .0; fewer = omega arith }))
+  agree (e ∷ es) [] rest rest′ s l s′ l′ same =
+      inr (inr (record { next = e; more = records-bytes es ++ rest; spelled = sym same ∙ append-assoc (entry-bytes e) (records-bytes es) rest; spellable = s .0; lawful = l .0; fewer = omega arith }))
+  agree (e ∷ es) (e′ ∷ es′) rest rest′ s l s′ l′ same =
+      let front = entry-once e e′ (records-bytes es ++ rest) (records-bytes es′ ++ rest′) (sym (append-assoc (entry-bytes e) (records-bytes es) rest) ∙ same ∙ append-assoc (entry-bytes e′) (records-bytes es′) rest′) in
+      agree-more e e′ es es′ rest rest′ (front .0) (agree es es′ rest rest′ (s .1) (l .1) (s′ .1) (l′ .1) (front .1))
+
+  -- Where another entry stands, no fault does.
+  pub goes-on-faultless : (at : ℕ) (es longer : List Entry) (rest : List ℕ) (fault : ListFault)
+      → Goes-on grid es longer rest → length longer ≤ 32 → No-next-task at grid (tasks-said es) rest fault → ⊥
+  goes-on-faultless at es longer rest TooMany on few none =
+      let long = length-map es numbers-said in
+      let fewer = on .fewer in
+      omega (arith, none .0)
+  goes-on-faultless at es longer rest (Sheet fault) on few none = entry-faultless (on .next) (on .more) (on .spellable) at rest fault (on .spelled) (none .1)
+  goes-on-faultless at es longer rest (Bound task) on few none =
+      let same = entry-once (none .0) (on .next) (none .1) (on .more) (sym (none .2) ∙ on .spelled) in
+      none .4 .2 (subst (λ e. Bounded grid (numbers-said e)) (sym (same .0)) (on .lawful .0))
+  goes-on-faultless at es longer rest (OffGrid task) on few none =
+      let same = entry-once (none .0) (on .next) (none .1) (on .more) (sym (none .2) ∙ on .spelled) in
+      none .4 .3 (subst (λ e. OnGrid grid (numbers-said e)) (sym (same .0)) (on .lawful .1))
+  goes-on-faultless at es longer rest (OutOfRange setting) on few none = elim none [ ]
+
+  -- Past the last record no fault stands either.
+  pub end-of-list-faultless : (at : ℕ) (tasks : List TaskRecord) (fault : ListFault) → No-next-task at grid tasks [] fault → ⊥
+  end-of-list-faultless at tasks TooMany none = none .1 refl
+  end-of-list-faultless at tasks (Sheet fault) none = end-faultless at fault (none .1)
+  end-of-list-faultless at tasks (Bound task) none = nothing-there (none .0) (none .1) (none .2)
+  end-of-list-faultless at tasks (OffGrid task) none = nothing-there (none .0) (none .1) (none .2)
+  end-of-list-faultless at tasks (OutOfRange setting) none = elim none [ ]
