@@ -1,6 +1,6 @@
 -- Bytes spell a sheet, or a record at their front, in one way, have one fault, and never both.
 use mathlib.Core.Path.{_≡_, refl, sym, ap, subst, _∙_}
-use mathlib.Core.Logic.{_⊎_, _≢_, inl, inr}
+use mathlib.Core.Logic.{_⊎_, inl, inr}
 use mathlib.Core.Bool.{cond}
 use mathlib.Core.List.{List, [], _∷_, _++_}
 use Prim.Native.Nat.{ℕ, _+_, _-_, _*_, _/_, _%_, _<_, _≤_}
@@ -10,7 +10,6 @@ use lib.ListN.{length, getD, take, drop}
 use Rattle.std.proofs.shelf.Elements.{all-getD}
 use Rattle.std.proofs.shelf.Lists.{drop-at, getD-take, length-append, length-take-le, take-at}
 use Rattle.std.proofs.shelf.Tests.{cases-lt, cases-order, cond-false, cond-true, eq-eqb, le-ltb, lt-ltb, ne-eqb}
-use Rattle.std.specs.shelf.Lists.{All}
 use Rattle.sheet.specs.Refusals.{Bad-length, Bad-name-byte, No-frame, No-record, Too-short, claimed-length, name-bytes}
 use Rattle.sheet.specs.Spelling.{Entry, Frame, Printable, Spellable, body-bytes, entry-bytes, four-bytes, sheet-bytes}
 use Rattle.sheet.specs.declared.fault.SheetFault.{SheetFault}

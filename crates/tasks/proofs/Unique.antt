@@ -2,7 +2,7 @@
 use mathlib.Core.Path.{_≡_, refl, sym, ap, ap₂, subst, _∙_}
 use mathlib.Core.Logic.{_⊎_, inl, inr}
 use mathlib.Core.List.{List, [], _∷_, _++_, append-assoc}
-use Prim.Native.Nat.{ℕ, _+_, _<_, _≤_}
+use Prim.Native.Nat.{ℕ, _<_, _≤_}
 use native.Mathlib.Omega.{arith}
 use lib.ListN.{length}
 use Rattle.sheet.proofs.Unique.{end-faultless, entry-faultless, entry-once, record-fault-once}
@@ -15,7 +15,7 @@ use Rattle.tasks.specs.declared.fault.ListFault.{ListFault}
 use Rattle.tasks.specs.declared.fault.ListFault.the-variants.{Sheet, TooMany, OutOfRange, Bound, OffGrid}
 use Rattle.tasks.specs.declared.record.TaskRecord.{TaskRecord}
 
-nothing-there : (e : Entry) (more : List ℕ) → [] ≡ entry-bytes e ++ more → ⊥
+pub nothing-there : (e : Entry) (more : List ℕ) → [] ≡ entry-bytes e ++ more → ⊥
 nothing-there e more none = let long : _≡_ {A = ℕ} 0 (length (entry-bytes e ++ more)) = ap length none in omega arith
 
 -- At `rest`, after these entries, the next one of a longer list stands.
@@ -34,12 +34,20 @@ module _ (grid : ℕ) where
   abbrev pub Agree : List Entry → List Entry → List ℕ → List ℕ → Type 0
   Agree es es′ rest rest′ = ((es ≡ es′) × (rest ≡ rest′)) ⊎ (Goes-on grid es es′ rest ⊎ Goes-on grid es′ es rest′)
 
+  goes-on-more : (e e′ : Entry) (es longer : List Entry) (rest : List ℕ) → Goes-on grid es longer rest → Goes-on grid (e ∷ es) (e′ ∷ longer) rest
+  goes-on-more e e′ es longer rest on = record {
+    next = on .next;
+    more = on .more;
+    spelled = on .spelled;
+    spellable = on .spellable;
+    lawful = on .lawful;
+    fewer = let fewer = on .fewer in omega arith;
+  }
+
   agree-more : (e e′ : Entry) (es es′ : List Entry) (rest rest′ : List ℕ) → e ≡ e′ → Agree es es′ rest rest′ → Agree (e ∷ es) (e′ ∷ es′) rest rest′
-  agree-more e e′ es es′ rest rest′ same (inl (both)) = inl (ap₂ _∷_ same (both .0), both .1)
-  agree-more e e′ es es′ rest rest′ same (inr (inl on)) =
-      inr (inl (record { next = on .next; more = on .more; spelled = on .spelled; spellable = on .spellable; lawful = on .lawful; fewer = let f = on .fewer in omega arith }))
-  agree-more e e′ es es′ rest rest′ same (inr (inr on)) =
-      inr (inr (record { next = on .next; more = on .more; spelled = on .spelled; spellable = on .spellable; lawful = on .lawful; fewer = let f = on .fewer in omega arith }))
+  agree-more e e′ es es′ rest rest′ same (inl both) = inl (ap₂ _∷_ same (both .0), both .1)
+  agree-more e e′ es es′ rest rest′ same (inr (inl on)) = inr (inl (goes-on-more e e′ es es′ rest on))
+  agree-more e e′ es es′ rest rest′ same (inr (inr on)) = inr (inr (goes-on-more e′ e es′ es rest′ on))
 
   -- Entries that begin the same records agree as far as both go.
   pub agree : (es es′ : List Entry) (rest rest′ : List ℕ) → All Spellable es → All Lawful-entry es → All Spellable es′ → All Lawful-entry es′
@@ -76,3 +84,36 @@ module _ (grid : ℕ) where
   end-of-list-faultless at tasks (Bound task) none = nothing-there (none .0) (none .1) (none .2)
   end-of-list-faultless at tasks (OffGrid task) none = nothing-there (none .0) (none .1) (none .2)
   end-of-list-faultless at tasks (OutOfRange setting) none = elim none [ ]
+
+  -- One fault stands at one place.
+  pub next-fault-once : (at : ℕ) (tasks : List TaskRecord) (rest : List ℕ) (fault fault′ : ListFault)
+      → No-next-task at grid tasks rest fault → No-next-task at grid tasks rest fault′ → fault ≡ fault′
+  next-fault-once at tasks rest TooMany TooMany none none′ = refl
+  next-fault-once at tasks rest TooMany (Sheet fault′) none none′ = absurd (omega (arith, none .0, none′ .0))
+  next-fault-once at tasks rest TooMany (Bound task′) none none′ = absurd (omega (arith, none .0, none′ .4 .0))
+  next-fault-once at tasks rest TooMany (OffGrid task′) none none′ = absurd (omega (arith, none .0, none′ .4 .0))
+  next-fault-once at tasks rest TooMany (OutOfRange setting′) none none′ = elim none′ [ ]
+  next-fault-once at tasks rest (Sheet fault) TooMany none none′ = absurd (omega (arith, none .0, none′ .0))
+  next-fault-once at tasks rest (Sheet fault) (Sheet fault′) none none′ = ap Sheet (record-fault-once rest at fault fault′ (none .1) (none′ .1))
+  next-fault-once at tasks rest (Sheet fault) (Bound task′) none none′ =
+      absurd (entry-faultless (none′ .0) (none′ .1) (none′ .3) at rest fault (none′ .2) (none .1))
+  next-fault-once at tasks rest (Sheet fault) (OffGrid task′) none none′ =
+      absurd (entry-faultless (none′ .0) (none′ .1) (none′ .3) at rest fault (none′ .2) (none .1))
+  next-fault-once at tasks rest (Sheet fault) (OutOfRange setting′) none none′ = elim none′ [ ]
+  next-fault-once at tasks rest (Bound task) TooMany none none′ = absurd (omega (arith, none .4 .0, none′ .0))
+  next-fault-once at tasks rest (Bound task) (Sheet fault′) none none′ =
+      absurd (entry-faultless (none .0) (none .1) (none .3) at rest fault′ (none .2) (none′ .1))
+  next-fault-once at tasks rest (Bound task) (Bound task′) none none′ = ap Bound (none .4 .1 ∙ sym (none′ .4 .1))
+  next-fault-once at tasks rest (Bound task) (OffGrid task′) none none′ =
+      let same = entry-once (none .0) (none′ .0) (none .1) (none′ .1) (sym (none .2) ∙ none′ .2) in
+      absurd (none .4 .2 (subst (λ e. Bounded grid (numbers-said e)) (sym (same .0)) (none′ .4 .2)))
+  next-fault-once at tasks rest (Bound task) (OutOfRange setting′) none none′ = elim none′ [ ]
+  next-fault-once at tasks rest (OffGrid task) TooMany none none′ = absurd (omega (arith, none .4 .0, none′ .0))
+  next-fault-once at tasks rest (OffGrid task) (Sheet fault′) none none′ =
+      absurd (entry-faultless (none .0) (none .1) (none .3) at rest fault′ (none .2) (none′ .1))
+  next-fault-once at tasks rest (OffGrid task) (Bound task′) none none′ =
+      let same = entry-once (none .0) (none′ .0) (none .1) (none′ .1) (sym (none .2) ∙ none′ .2) in
+      absurd (none′ .4 .2 (subst (λ e. Bounded grid (numbers-said e)) (same .0) (none .4 .2)))
+  next-fault-once at tasks rest (OffGrid task) (OffGrid task′) none none′ = ap OffGrid (none .4 .1 ∙ sym (none′ .4 .1))
+  next-fault-once at tasks rest (OffGrid task) (OutOfRange setting′) none none′ = elim none′ [ ]
+  next-fault-once at tasks rest (OutOfRange setting) fault′ none none′ = elim none [ ]
