@@ -3,6 +3,7 @@ pub mod Filling
 pub mod List
 pub mod Order
 pub mod Reading
+pub mod Settled
 pub mod Steps
 pub mod Tables
 pub mod Task

@@ -3,6 +3,7 @@ ghost use mathlib.Core.List.{[]};
 ghost use mathlib.Core.Logic.{_≢_};
 ghost use Rattle.sheet.specs.Reading.{unread};
 ghost use Rattle.tasks.specs.Reading.{List-read, Name-read};
+ghost use Rattle.tasks.specs.Settled.{Reading-settled};
 ghost use Rattle.tasks.specs.Steps.{Scanned, Taken};
 use crate::fault::ListFault;
 use crate::fault::ListFaultFromSheet;
@@ -80,3 +81,8 @@ pub fn name<'a>(bytes: &'a [u8], task: usize) -> Result<Option<Part<'a>>, ListFa
     }
     Ok(name)
 }
+
+// Reading has one answer: bytes spell at most one list, have at most one fault, and never both.
+pub fn reading_is_settled()
+    ensures { λ _. ⌜ Reading-settled ⌝ }
+{}
