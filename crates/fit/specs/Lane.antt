@@ -47,9 +47,9 @@ with-job clock s = record { last = Some clock; waiting = s .waiting ++ (record {
 pub data Releases (clock : ℕ) : List TaskRecord → List Standing → List Standing → Type 0 where
   no-more : Releases clock [] [] []
   stays : {t : TaskRecord} {s : Standing} {row : List TaskRecord} {ss ss′ : List Standing}
-    → Releases clock row ss ss′ → Releases clock (t ∷ row) (s ∷ ss) (s ∷ ss′)
+      → Releases clock row ss ss′ → Releases clock (t ∷ row) (s ∷ ss) (s ∷ ss′)
   comes : {t : TaskRecord} {s : Standing} {row : List TaskRecord} {ss ss′ : List Standing}
-    → May-release clock t s → Releases clock row ss ss′ → Releases clock (t ∷ row) (s ∷ ss) (with-job clock s ∷ ss′)
+      → May-release clock t s → Releases clock row ss ss′ → Releases clock (t ∷ row) (s ∷ ss) (with-job clock s ∷ ss′)
 
 -- A job after one more slot of service.
 abbrev pub served-once : Job → Job
@@ -81,8 +81,8 @@ after-slot row clock standings said = record { clock = clock + 1; standings = se
 pub data Reached (row : List TaskRecord) : Lane → Type 0 where
   starts : (clock : ℕ) → Reached row (fresh clock row)
   slot : {l : Lane} {standings : List Standing}
-    → Reached row l → Releases (l .clock) row (l .standings) standings → (said : Bool)
-    → Reached row (after-slot row (l .clock) standings said)
+      → Reached row l → Releases (l .clock) row (l .standings) standings → (said : Bool)
+      → Reached row (after-slot row (l .clock) standings said)
 
 -- Past the row's end stands nothing.
 abbrev pub no-task : TaskRecord
