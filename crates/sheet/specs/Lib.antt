@@ -1,1 +1,5 @@
 pub mod Codes
+pub mod Reading
+pub mod Refusals
+pub mod Spelling
+pub mod Steps

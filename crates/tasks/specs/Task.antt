@@ -3,10 +3,17 @@ use mathlib.Core.Path.{_≡_}
 use Prim.Native.Nat.{ℕ, _*_, _%_, _≤_}
 use Rattle.tasks.specs.declared.record.TaskRecord.{TaskRecord}
 
--- The bounds on work, limit and gap, where `widest` is the widest gap allowed.
+-- There is work, and it fits into the limit and into the gap.
+abbrev pub Work-fits : TaskRecord → Type 0
+Work-fits t = (1 ≤ t .work) × (t .work ≤ t .limit) × (t .work ≤ t .gap)
+
+-- Gap and limit are in their ranges, where `widest` is the widest gap allowed. A limit may be longer than its gap.
+abbrev pub In-ranges : ℕ → TaskRecord → Type 0
+In-ranges widest t = (t .gap ≤ widest) × (t .limit ≤ 1048576) × (t .limit ≤ 4 * t .gap)
+
+-- The bounds on work, limit and gap.
 abbrev pub Bounded : ℕ → TaskRecord → Type 0
-Bounded widest t =
-    (1 ≤ t .work) × (t .work ≤ t .limit) × (t .work ≤ t .gap) × (t .gap ≤ widest) × (t .limit ≤ 1048576) × (t .limit ≤ 4 * t .gap)
+Bounded widest t = Work-fits t × In-ranges widest t
 
 -- The widest grid a list may have, and so the widest gap a task may have.
 abbrev pub widest-grid : ℕ

@@ -1,3 +1,5 @@
 // Tasks and task lists, and reading them from a sheet.
 pub mod fault;
 pub mod record;
+pub mod table;
+pub mod task;
