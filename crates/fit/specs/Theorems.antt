@@ -36,6 +36,10 @@ abbrev pub Larger-works-wait-no-less : Type 0
 Larger-works-wait-no-less =
     (row raised : List TaskRecord) (i time : ℕ) → Raised row raised → Waits-past row i time → Waits-past raised i time
 
+-- So a task that is safe with larger works is safe.
+abbrev pub Safe-with-larger-works : Type 0
+Safe-with-larger-works = (row raised : List TaskRecord) (i : ℕ) → Raised row raised → Safe-task raised i → Safe-task row i
+
 -- A task with some work and a gap.
 abbrev pub Proper : TaskRecord → Type 0
 Proper t = (1 ≤ t .work) × (1 ≤ t .gap)
@@ -74,20 +78,9 @@ Counts-bound-waiting =
     Waits-past (row ++ (asked ∷ [])) (length row) time →
     ⊥
 
--- The law of a fit test with these yeses: after a yes to a row and a task, that task is safe at the row's end.
-abbrev pub Keeps-the-law : (List TaskRecord → TaskRecord → Type 0) → Type 0
-Keeps-the-law yes-to =
-    (row : List TaskRecord) (asked : TaskRecord) → yes-to row asked → Safe-task (row ++ (asked ∷ [])) (length row)
-
--- Each task of the row was accepted over those before it.
+-- Each task of the row was accepted over those before it, where these are the questions with a yes.
 abbrev pub Accepted-in-turn : (List TaskRecord → TaskRecord → Type 0) → List TaskRecord → Type 0
 Accepted-in-turn yes-to row = (k : ℕ) → k < length row → yes-to (take k row) (getD row k no-task)
-
--- Whatever fit test keeps the law, a lane whose every task it accepted over those before it has no late job in any run.
-abbrev pub Accepted-lanes-are-safe : Type 1
-Accepted-lanes-are-safe =
-    (yes-to : List TaskRecord → TaskRecord → Type 0) → Keeps-the-law yes-to →
-    (row : List TaskRecord) → Accepted-in-turn yes-to row → Safe-lane row
 
 -- A task with this work, limit and gap.
 abbrev pub task : ℕ → ℕ → ℕ → TaskRecord
