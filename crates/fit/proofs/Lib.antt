@@ -1,1 +1,4 @@
+pub mod Prefix
 pub mod Scans
+pub mod Service
+pub mod Works

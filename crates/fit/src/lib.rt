@@ -1,3 +1,4 @@
 // Fit tests: may one more task join a lane? A yes is proved to keep it on time.
 mod askable;
 pub mod question;
+pub mod theorems;

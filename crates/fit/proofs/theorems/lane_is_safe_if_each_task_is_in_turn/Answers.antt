@@ -1,0 +1,5 @@
+use Rattle.fit.proofs.Prefix.{lane-safe-in-turn}
+use Rattle.fit.proofs.theorems.lane_is_safe_if_each_task_is_in_turn.Needs as need
+
+pub returns : need.returns
+returns c = lane-safe-in-turn

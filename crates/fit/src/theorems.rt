@@ -1,0 +1,27 @@
+// What is proved of every run of a plain lane: each function's contract is one theorem.
+ghost use mathlib.Core.List.{List};
+ghost use Rattle.fit.specs.Lane.{Safe-lane};
+ghost use Rattle.fit.specs.Theorems.{Lower-tasks-never-disturb, Safe-in-turn, Accepted-in-turn, Larger-works-wait-no-less, Safe-with-larger-works};
+ghost use Rattle.tasks.specs.declared.record.TaskRecord.{TaskRecord};
+use crate::question::FitTest;
+
+// Lower tasks never disturb higher ones.
+pub fn lower_tasks_never_disturb_higher()
+    ensures { λ _. ⌜ Lower-tasks-never-disturb ⌝ }
+{}
+
+// A lane is safe if each of its tasks is safe at the end of those before it.
+pub fn lane_is_safe_if_each_task_is_in_turn()
+    ensures { λ _. ⌜ Safe-in-turn ⌝ }
+{}
+
+// Whichever fit test accepted every task of a lane over those before it: no run has a late job.
+pub fn accepted_lane_has_no_late_job<F: FitTest>(test: &F)
+    ensures { λ _. ⌜ ((row : List TaskRecord) → Accepted-in-turn (F·FitTest .yes (now (test .entry))) row → Safe-lane row) ⌝ }
+{}
+
+// Larger works only make a lane worse: what is safe with them is safe without.
+pub fn larger_works_are_never_safer()
+    ensures waits { λ _. ⌜ Larger-works-wait-no-less ⌝ }
+    ensures safe { λ _. ⌜ Safe-with-larger-works ⌝ }
+{}
