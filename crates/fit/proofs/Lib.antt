@@ -1,4 +1,9 @@
+pub mod Bounds
+pub mod Copies
+pub mod Laws
 pub mod Prefix
+pub mod Rounding
 pub mod Scans
 pub mod Service
+pub mod Totals
 pub mod Works

@@ -56,16 +56,19 @@ rounded-up time gap = time / gap + min 1 (time % gap)
 abbrev pub requests : ℕ → TaskRecord → ℕ
 requests time t = rounded-up time (t .gap) * t .work
 
--- The exact test (the response-time test of Audsley, Burns, Richardson and Wellings, 1991):
--- the limit lies within the gap, and some time from 1 to the limit has room for all that is asked for within it.
-pub record Exact-yes (row : List TaskRecord) (asked : TaskRecord) : Type 0 where
-  pub askable : Askable row asked
-  pub limit-in-gap : asked .limit ≤ asked .gap
+-- Some whole time from 1 to the limit has room for all that the asked task and the row ask for within it.
+pub record Enough-time (row : List TaskRecord) (asked : TaskRecord) : Type 0 where
   pub time : ℕ
   pub from-one : 1 ≤ time
   pub to-limit : time ≤ asked .limit
   -- e + Σ ⌈time/p_j⌉*e_j ≤ time
-  pub in-time : asked .work + sumBy (requests time) row ≤ time
+  pub room : asked .work + sumBy (requests time) row ≤ time
+
+-- The exact test (the response-time test of Audsley, Burns, Richardson and Wellings, 1991).
+pub record Exact-yes (row : List TaskRecord) (asked : TaskRecord) : Type 0 where
+  pub askable : Askable row asked
+  pub limit-in-gap : asked .limit ≤ asked .gap
+  pub enough-time : Enough-time row asked
 
 -- ---- Surcharge
 

@@ -5,31 +5,17 @@ ghost use Rattle.std.specs.Orderings.{Decides};
 ghost use Rattle.std.specs.shelf.Lists.{All};
 ghost use Rattle.tasks.specs.Task.{Bounded, widest-grid};
 use tasks::record::TaskRecord;
+use tasks::task::WIDEST_GRID;
 
-const LONGEST_ROW: usize = 31;
-
-const WIDEST_GAP: u32 = 16_777_216;
-
-const LONGEST_LIMIT: u32 = 1_048_576;
-
-// Whether a task keeps its bounds.
-fn bounded(t: TaskRecord) -> bool
-    ensures { λ r. ⌜ Decides r (Bounded widest-grid t) ⌝ }
-{
-    1 <= t.work
-        && t.work <= t.limit
-        && t.work <= t.gap
-        && t.gap <= WIDEST_GAP
-        && t.limit <= LONGEST_LIMIT
-        && t.limit <= 4 * t.gap
-}
+// The longest row that a test may be asked about.
+pub(crate) const LONGEST_ROW: usize = 31;
 
 // Whether every task of a row keeps its bounds.
 fn all_bounded(row: &[TaskRecord]) -> bool
     ensures { λ r. ⌜ Decides r (All (Bounded widest-grid) (now (row .entry))) ⌝ }
 {
     for t in row {
-        if !bounded(*t) {
+        if !t.bounded(WIDEST_GRID) {
             return false;
         }
     }
@@ -40,5 +26,5 @@ fn all_bounded(row: &[TaskRecord]) -> bool
 pub(crate) fn askable(row: &[TaskRecord], asked: TaskRecord) -> bool
     ensures { λ r. ⌜ Decides r (Askable (now (row .entry)) asked) ⌝ }
 {
-    row.len() <= LONGEST_ROW && all_bounded(row) && bounded(asked)
+    row.len() <= LONGEST_ROW && all_bounded(row) && asked.bounded(WIDEST_GRID)
 }

@@ -1,4 +1,6 @@
 // Fit tests: may one more task join a lane? A yes is proved to keep it on time.
 mod askable;
+pub mod either;
 pub mod question;
+pub mod surcharge;
 pub mod theorems;
