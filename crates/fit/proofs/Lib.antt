@@ -1,3 +1,4 @@
+pub mod Account
 pub mod Prefix
 pub mod Service
 pub mod Works
