@@ -1,4 +1,5 @@
 pub mod Account
 pub mod Prefix
 pub mod Service
+pub mod Split
 pub mod Works
