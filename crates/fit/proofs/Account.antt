@@ -2,7 +2,7 @@
 use mathlib.Core.Path.{_≡_, refl, sym, ap, subst, _∙_}
 use mathlib.Core.Bool.{Bool, true, false, cond}
 use mathlib.Core.List.{List, [], _∷_, _++_, map}
-use mathlib.Core.Logic.{_⊎_, inl, inr}
+use mathlib.Core.Logic.{_⊎_, inl, inr, ⊎-elim}
 use Prim.Native.Nat.{ℕ, zero, suc, _+_, _*_, _≤_, _<_}
 use native.Mathlib.Nat.{zero-mul, suc-mul, add-mul, one-mul, not-suc-le-zero, le-of-suc-le-suc}
 use native.Mathlib.Omega.{arith}
@@ -171,6 +171,13 @@ account-serves {from} {clock} {closed} {served} {t} {s} said w proper h = go (cl
           account-goes-on (s .last) (w .first) (w .rest)
               (leb-false (t .work) (w .first .served + 1) (or-parts said (leb (t .work) (w .first .served + 1)) e .1)) plain,
         )
+
+-- A slot of service, whichever it does.
+pub account-served : {from clock closed served : ℕ} {t : TaskRecord} {s : Standing} (said : Bool) (w : Waiting s) → Proper t →
+    Account from clock t s closed served →
+    (closed′ : ℕ) × Account from clock t (after-service t said s (w .first) (w .rest)) closed′ (served + 1)
+account-served {closed = closed} said w proper h =
+    ⊎-elim (λ now. (closed + 1, now .1)) (λ on. (closed, on .1)) (account-serves said w proper h)
 
 begun-within : (work : ℕ) (jobs : List Job) → Unfinished work jobs → begun jobs ≤ length jobs * work
 begun-within work [] u = omega arith

@@ -2,4 +2,5 @@ pub mod Account
 pub mod Prefix
 pub mod Service
 pub mod Split
+pub mod Window
 pub mod Works
