@@ -231,3 +231,11 @@ waiting-release {from} {clock} {closed} {served} {t} {s} job h has = (closed + h
           add-mul closed (has .0) (t .work),
           one-mul (t .work),
         )
+
+-- A task that has closed no job was served less than its work.
+pub served-short : {from clock served : ℕ} {t : TaskRecord} {s : Standing} → 1 ≤ t .work → Account from clock t s 0 served → served < t .work
+served-short {t = t} {s = s} some h = omega (arith, h .within, zero-mul (t .work), short (s .waiting) (h .unfinished))
+  where
+    short : (jobs : List Job) → Unfinished (t .work) jobs → begun jobs < t .work
+    short [] u = some
+    short (j ∷ rest) u = u .0

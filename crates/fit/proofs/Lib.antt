@@ -1,4 +1,6 @@
 pub mod Account
+pub mod Alive
+pub mod Exact
 pub mod Prefix
 pub mod Service
 pub mod Shares

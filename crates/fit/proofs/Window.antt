@@ -52,7 +52,7 @@ accounts-serve from clock said (t ∷ row) (s ∷ ss) total proper (inr b) h =
     subst (λ (after : List Standing). Accounts from clock (t ∷ row) after (total + 1)) (sym (serve-idle said t row s ss (b .0)))
     (h .0, h .1, h .2 + 1, omega (arith, h .3), h .4, accounts-serve from clock said row ss (h .2) (proper .1) (b .1) (h .5))
 
-fresh-idle : (row : List TaskRecord) → Idle (map (λ (t : TaskRecord). unreleased) row)
+pub fresh-idle : (row : List TaskRecord) → Idle (map (λ (t : TaskRecord). unreleased) row)
 fresh-idle [] = tt
 fresh-idle (t ∷ row) = (refl, fresh-idle row)
 
