@@ -1,9 +1,15 @@
+pub mod Account
+pub mod Alive
 pub mod Bounds
 pub mod Copies
+pub mod Counts
 pub mod Laws
 pub mod Prefix
 pub mod Rounding
 pub mod Scans
 pub mod Service
+pub mod Shares
+pub mod Split
 pub mod Totals
+pub mod Window
 pub mod Works

@@ -56,12 +56,12 @@ first-reached row below (slot {l = l} {standings = ss} r releases said) =
     (sym (first-serve said row below ss))
     (slot (first-reached row below r) (first-releases row below releases) said)
 
-length-releases : {clock : ℕ} {row : List TaskRecord} {ss ss′ : List Standing} → Releases clock row ss ss′ → length ss′ ≡ length row
+pub length-releases : {clock : ℕ} {row : List TaskRecord} {ss ss′ : List Standing} → Releases clock row ss ss′ → length ss′ ≡ length row
 length-releases no-more = refl
 length-releases (stays r) = ap suc (length-releases r)
 length-releases (comes may r) = ap suc (length-releases r)
 
-length-serve : (said : Bool) (row : List TaskRecord) (ss : List Standing) → length (serve said row ss) ≡ length ss
+pub length-serve : (said : Bool) (row : List TaskRecord) (ss : List Standing) → length (serve said row ss) ≡ length ss
 length-serve said [] ss = refl
 length-serve said (t ∷ row) [] = refl
 length-serve said (t ∷ row) (s ∷ ss) = go (length-serve said row ss) (idle-or-waiting s)

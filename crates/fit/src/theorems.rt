@@ -1,7 +1,7 @@
 // What is proved of every run of a plain lane: each function's contract is one theorem.
 ghost use mathlib.Core.List.{List};
 ghost use Rattle.fit.specs.Lane.{Safe-lane};
-ghost use Rattle.fit.specs.Theorems.{Lower-tasks-never-disturb, Safe-in-turn, Accepted-in-turn, Larger-works-wait-no-less, Safe-with-larger-works};
+ghost use Rattle.fit.specs.Theorems.{Lower-tasks-never-disturb, Safe-in-turn, Accepted-in-turn, Larger-works-wait-no-less, Safe-with-larger-works, Shares-bound-waiting, Counts-bound-waiting, Overfull-lane-is-late, A-job-may-finish-early};
 ghost use Rattle.tasks.specs.declared.record.TaskRecord.{TaskRecord};
 use crate::question::FitTest;
 
@@ -24,4 +24,24 @@ pub fn accepted_lane_has_no_late_job<F: FitTest>(test: &F)
 pub fn larger_works_are_never_safer()
     ensures waits { λ _. ⌜ Larger-works-wait-no-less ⌝ }
     ensures safe { λ _. ⌜ Safe-with-larger-works ⌝ }
+{}
+
+// The share rule, over any scale and any shares that are at least their fractions.
+pub fn shares_bound_waiting()
+    ensures { λ _. ⌜ Shares-bound-waiting ⌝ }
+{}
+
+// The exact rule, over any count of jobs that covers the time.
+pub fn counts_bound_waiting()
+    ensures { λ _. ⌜ Counts-bound-waiting ⌝ }
+{}
+
+// The model has late jobs: some run of an overfull lane has one.
+pub fn overfull_lane_has_a_late_job()
+    ensures { λ _. ⌜ Overfull-lane-is-late ⌝ }
+{}
+
+// The model has jobs that finish early, and jobs that do not.
+pub fn a_job_may_finish_early()
+    ensures { λ _. ⌜ A-job-may-finish-early ⌝ }
 {}
