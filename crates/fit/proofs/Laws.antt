@@ -5,10 +5,12 @@ use native.Mathlib.Nat.{mul-assoc, mul-comm}
 use native.Mathlib.Omega.{arith}
 use Prim.Native.Nat.{ℕ, _+_, _*_, _/_, _%_, _≤_}
 use lib.ListN.{length, getD}
+use Rattle.fit.proofs.Counts.{exact-rule}
 use Rattle.fit.proofs.Rounding.{covers}
+use Rattle.fit.proofs.Shares.{share-rule}
 use Rattle.fit.specs.Lane.{Safe-task, Waits-past, no-task}
 use Rattle.fit.specs.Tests.{Exact-yes, Grid-range, Linear-yes, line, requests, rounded-up, share}
-use Rattle.fit.specs.Theorems.{Counts-bound-waiting, Covers, Proper, Shares-bound-waiting}
+use Rattle.fit.specs.Theorems.{Covers, Proper}
 use Rattle.std.proofs.shelf.Bits.{div-add-mod'}
 use Rattle.std.proofs.shelf.Elements.{all-weaker}
 use Rattle.std.proofs.shelf.Lists.{getD-push}
@@ -45,20 +47,20 @@ share-exact grid t on = mul-assoc (t .work) (grid / t .gap) (t .gap) ∙ ap (λ 
 share-covers : (grid : ℕ) (t : TaskRecord) → OnGrid grid t → Covers grid (share grid) t
 share-covers grid t on = omega (arith, share-exact grid t on)
 
-pub linear-safe : Shares-bound-waiting → (grid : ℕ) (row : List TaskRecord) (asked : TaskRecord)
+pub linear-safe : (grid : ℕ) (row : List TaskRecord) (asked : TaskRecord)
     → Grid-range grid → Linear-yes grid row asked → Safe-task (row ++ (asked ∷ [])) (length row)
-linear-safe rule grid row asked range h =
+linear-safe grid row asked range h =
     safe-within row asked (asked .limit) (omega arith)
-    (rule grid (share grid) row asked (asked .limit) (range .0) (all-proper row (h .askable .row-bounded)) (proper asked (h .askable .asked-bounded))
+    (share-rule grid (share grid) row asked (asked .limit) (range .0) (all-proper row (h .askable .row-bounded)) (proper asked (h .askable .asked-bounded))
     (all-weaker (OnGrid grid) (Covers grid (share grid)) (share-covers grid) row (h .row-on-grid)) (share-covers grid asked (h .asked-on-grid))
     (h .in-time) (h .shares))
 
-pub exact-safe : Counts-bound-waiting → (row : List TaskRecord) (asked : TaskRecord)
+pub exact-safe : (row : List TaskRecord) (asked : TaskRecord)
     → Exact-yes row asked → Safe-task (row ++ (asked ∷ [])) (length row)
-exact-safe rule row asked h =
+exact-safe row asked h =
     let time = h .enough-time .time in
     safe-within row asked time (h .enough-time .to-limit)
-    (rule row asked time (λ t. rounded-up time (t .gap)) (omega arith) (all-proper row (h .askable .row-bounded)) (proper asked (h .askable .asked-bounded))
+    (exact-rule row asked time (λ t. rounded-up time (t .gap)) (omega arith) (all-proper row (h .askable .row-bounded)) (proper asked (h .askable .asked-bounded))
     (all-weaker (Bounded widest-grid) (λ t. time ≤ rounded-up time (t .gap) * t .gap) (λ t b. covers time (t .gap) (omega arith)) row
     (h .askable .row-bounded))
     (h .enough-time .room))

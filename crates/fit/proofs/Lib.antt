@@ -13,3 +13,4 @@ pub mod Split
 pub mod Totals
 pub mod Window
 pub mod Works
+pub mod Worths
