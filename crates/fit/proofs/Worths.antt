@@ -160,7 +160,7 @@ all-both P Q R f [] p q = tt
 all-both P Q R f (t ∷ row) p q = (f t (p .0) (q .0), all-both P Q R f row (p .1) (q .1))
 
 pub linear-is-the-standard : Linear-is-the-standard
-linear-is-the-standard grid row asked range may on asked-on = (
+linear-is-the-standard grid row asked range lawful = (
   λ yes-to.
       record {
         inequality-5 = worth-in grid limit lines work (range .0) (yes-to .in-time);
@@ -168,9 +168,9 @@ linear-is-the-standard grid row asked range may on asked-on = (
       },
   λ by-standard.
       record {
-        askable = may;
-        row-on-grid = on;
-        asked-on-grid = asked-on;
+        askable = lawful .askable;
+        row-on-grid = lawful .row-on-grid;
+        asked-on-grid = lawful .asked-on-grid;
         in-time = worth-out grid limit lines work (by-standard .inequality-5);
         shares = omega (arith, mul-one grid, worth-out grid one shares asked-share (by-standard .inequality-6));
       },
@@ -186,14 +186,14 @@ linear-is-the-standard grid row asked range may on asked-on = (
     one = worth-whole grid 1
 
     asked-share : Worth grid (utilization asked) (share grid asked)
-    asked-share = worth-utilization grid asked (may .asked-bounded) asked-on
+    asked-share = worth-utilization grid asked (lawful .askable .asked-bounded) (lawful .asked-on-grid)
 
     lines : Worth grid (Σᶠ (λ τ. RBF* τ (asked .limit)) row) (sumBy (line grid (asked .limit)) row)
     lines =
         worth-sum grid (λ τ. RBF* τ (asked .limit)) (line grid (asked .limit)) row
-        (all-both (Bounded widest-grid) (OnGrid grid) (λ t. Worth grid (RBF* t (asked .limit)) (line grid (asked .limit) t)) (worth-line grid (asked .limit)) row (may .row-bounded) on)
+        (all-both (Bounded widest-grid) (OnGrid grid) (λ t. Worth grid (RBF* t (asked .limit)) (line grid (asked .limit) t)) (worth-line grid (asked .limit)) row (lawful .askable .row-bounded) (lawful .row-on-grid))
 
     shares : Worth grid (Σᶠ utilization row) (sumBy (share grid) row)
     shares =
         worth-sum grid utilization (share grid) row
-        (all-both (Bounded widest-grid) (OnGrid grid) (λ t. Worth grid (utilization t) (share grid t)) (worth-utilization grid) row (may .row-bounded) on)
+        (all-both (Bounded widest-grid) (OnGrid grid) (λ t. Worth grid (utilization t) (share grid t)) (worth-utilization grid) row (lawful .askable .row-bounded) (lawful .row-on-grid))

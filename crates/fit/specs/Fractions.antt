@@ -73,12 +73,16 @@ pub record Standard (row : List TaskRecord) (asked : TaskRecord) : Type 0 where
   -- 1 - Σ u_j ≥ u: Fisher, Baruah and Baker, ECRTS 2006, inequality 6.
   pub inequality-6 : whole 1 -ᶠ Σᶠ utilization row ≥ᶠ utilization asked
 
--- Asked about lawful tasks whose gaps all divide the grid, the linear test says yes exactly where the standard does.
+-- A row of at most 31 tasks and one more, all within their bounds, with gaps that divide the grid.
+pub record Lawful-question (grid : ℕ) (row : List TaskRecord) (asked : TaskRecord) : Type 0 where
+  pub askable : Askable row asked
+  pub row-on-grid : All (OnGrid grid) row
+  pub asked-on-grid : OnGrid grid asked
+
+-- To such a question, the linear test over the grid says yes exactly where the standard does.
 abbrev pub Linear-is-the-standard : Type 0
 Linear-is-the-standard =
     (grid : ℕ) (row : List TaskRecord) (asked : TaskRecord) →
     Grid-range grid →
-    Askable row asked →
-    All (OnGrid grid) row →
-    OnGrid grid asked →
+    Lawful-question grid row asked →
     Linear-yes grid row asked ↔ Standard row asked

@@ -14,8 +14,10 @@ pub struct Either<A, B> {
 }
 
 impl<A: FitTest, B: FitTest> Either<A, B> {
+    // A test over these two.
     pub fn new(first: A, second: B) -> Either<A, B>
-        ensures { λ r. ⌜ (r .first ≡ first) × (r .second ≡ second) ⌝ }
+        ensures first { λ r. ⌜ r .first ≡ first ⌝ }
+        ensures second { λ r. ⌜ r .second ≡ second ⌝ }
     {
         Either { first, second }
     }

@@ -3,6 +3,7 @@ ghost use Prim.Native.Nat.{_+_, _*_, _^_, _≤_};
 ghost use lib.ListN.{length};
 ghost use mathlib.Core.List.{List};
 ghost use mathlib.Core.Path.{_≡_};
+ghost use Rattle.fit.specs.Fractions.{Lawful-question, Standard};
 ghost use Rattle.fit.specs.Tests.{Askable, Grid-range, Held, Linear-yes, line, share};
 ghost use Rattle.std.specs.Orderings.{Decides};
 ghost use Rattle.std.specs.shelf.Lists.{All, sumBy};
@@ -137,14 +138,26 @@ fn shares_fit(grid: u32, row: &[TaskRecord], asked: TaskRecord) -> bool
     share_of(grid, asked) + shares_of(grid, row) <= grid as u64
 }
 
+// Whether the test over this grid says yes.
+fn says_yes(grid: u32, row: &[TaskRecord], asked: TaskRecord) -> bool
+    requires { ⌜ Grid-range grid ⌝ }
+    ensures { λ r. ⌜ Decides r (Linear-yes grid (now (row .entry)) asked) ⌝ }
+{
+    askable(row, asked)
+        && on_grid(grid, asked)
+        && all_on_grid(grid, row)
+        && in_time(grid, row, asked)
+        && shares_fit(grid, row, asked)
+}
+
 pub impl FitTest for Linear as LinearFit {
     ghost yes = { λ test row asked. Linear-yes (test .grid) row asked };
 
-    fn fits(&self, row: &[TaskRecord], asked: TaskRecord) -> bool {
-        askable(row, asked)
-            && on_grid(self.grid, asked)
-            && all_on_grid(self.grid, row)
-            && in_time(self.grid, row, asked)
-            && shares_fit(self.grid, row, asked)
+    // About lawful tasks on its grid the answer is that of the standard, in exact fractions.
+    fn fits(&self, row: &[TaskRecord], asked: TaskRecord) -> bool
+        ensures answer { λ r. ⌜ Decides r (Linear-yes (now (self .entry) .grid) (now (row .entry)) asked) ⌝ }
+        ensures standard { λ r. ⌜ (Lawful-question (now (self .entry) .grid) (now (row .entry)) asked → Decides r (Standard (now (row .entry)) asked)) ⌝ }
+    {
+        says_yes(self.grid, row, asked)
     }
 }
