@@ -50,7 +50,10 @@ fn switch_costs() -> Result<(), Fail> {
     let asked = task(2, 6, 10);
     check(!Surcharge::new(Linear::new(60)?, 1)?.fits(&row, asked))?;
     check(Surcharge::new(Exact, 1)?.fits(&row, asked))?;
-    let either = Either::new(Linear::new(60)?, Exact);
+    let either = Either {
+        first: Linear::new(60)?,
+        second: Exact,
+    };
     check(either.fits(&row, asked))?;
     let dear = Surcharge::new(either, 1)?;
     check(dear.fits(&row, asked))?;
@@ -87,7 +90,10 @@ fn long_limits() -> Result<(), Fail> {
 
 // A bound kept and then broken by one: asked alone, and in the row above a task that wants next to nothing.
 fn keeps(kept: TaskRecord, broken: TaskRecord) -> Result<(), Fail> {
-    let test = Either::new(Linear::new(16_777_216)?, Exact);
+    let test = Either {
+        first: Linear::new(16_777_216)?,
+        second: Exact,
+    };
     let little = task(1, 1_048_576, 16_777_216);
     check(test.fits(&[], kept))?;
     check(!test.fits(&[], broken))?;
