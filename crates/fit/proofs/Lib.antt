@@ -2,6 +2,7 @@ pub mod Account
 pub mod Alive
 pub mod Exact
 pub mod Prefix
+pub mod Safe
 pub mod Service
 pub mod Shares
 pub mod Split
