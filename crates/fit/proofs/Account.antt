@@ -1,7 +1,7 @@
 -- The account of a busy window: per task, how many of its jobs closed since the window's start, and the slots that it was served.
 use mathlib.Core.Path.{_≡_, refl, sym, ap, subst, _∙_}
 use mathlib.Core.Bool.{Bool, true, false, cond}
-use mathlib.Core.List.{List, [], _∷_, _++_, map}
+use mathlib.Core.List.{List, [], _∷_, _++_}
 use mathlib.Core.Logic.{_⊎_, inl, inr, ⊎-elim}
 use Prim.Native.Nat.{ℕ, zero, suc, _+_, _*_, _≤_, _<_}
 use native.Mathlib.Nat.{zero-mul, suc-mul, add-mul, one-mul, not-suc-le-zero, le-of-suc-le-suc}
@@ -65,7 +65,7 @@ account-stays h =
     record { within = h .within; unfinished = h .unfinished; spaced = h .spaced; next = h .next; before = omega arith }
 
 -- The job that is released at this clock.
-abbrev new-job : ℕ → Job
+abbrev pub new-job : ℕ → Job
 new-job clock = record { release = clock; served = 0 }
 
 begun-push : (jobs : List Job) (clock : ℕ) → begun (jobs ++ (new-job clock ∷ [])) ≡ begun jobs

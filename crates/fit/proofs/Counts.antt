@@ -1,23 +1,23 @@
 -- The exact rule: with a gap no shorter than the time, no busy window of a lane reaches the time, and so no job waits for it.
-use mathlib.Core.Path.{_≡_, refl, sym, ap, subst, _∙_}
+use mathlib.Core.Path.{_≡_, ap, _∙_}
 use mathlib.Core.Bool.{Bool, true, false, cond}
-use mathlib.Core.List.{List, [], _∷_, _++_, map}
+use mathlib.Core.List.{List, [], _∷_}
 use mathlib.Core.Logic.{_⊎_, inl, inr}
-use Prim.Native.Nat.{ℕ, zero, suc, _+_, _*_, _≤_, _<_}
-use native.Mathlib.Nat.{zero-mul, add-mul, one-mul, suc-mul, mul-le-mul-right, lt-of-mul-lt-mul-right}
+use Prim.Native.Nat.{ℕ, _+_, _*_, _≤_, _<_}
+use native.Mathlib.Nat.{add-mul, one-mul, mul-le-mul-right, lt-of-mul-lt-mul-right}
 use native.Mathlib.Omega.{arith}
 use lib.ListN.{length}
 use Rattle.std.specs.shelf.Lists.{All, sumBy}
-use Rattle.std.proofs.shelf.Lists.{length-map, length-push, nil-from-length}
+use Rattle.std.proofs.shelf.Lists.{length-push, nil-from-length}
 use Rattle.std.proofs.shelf.Sums.{sumBy-cons}
 use Rattle.tasks.specs.declared.record.TaskRecord.{TaskRecord}
-use Rattle.fit.specs.Lane.{Job, Standing, unreleased, with-job, Releases, no-more, stays, comes, served-once, closes, after-service, Waits-past}
+use Rattle.fit.specs.Lane.{Standing, Releases, no-more, stays, comes, served-once, closes, after-service}
 use Rattle.fit.specs.Theorems.{Proper, Counts-bound-waiting}
 use Rattle.fit.proofs.Account.{Account, account-start, account-serves, served-within, served-short, waiting-release}
 use Rattle.fit.proofs.Prefix.{length-releases}
 use Rattle.fit.proofs.Service.{Waiting}
 use Rattle.fit.proofs.Split.{Idle, Beside, begins, row-slot, asked-slot, idle-slot, Seen, seen, asked-waits}
-use Rattle.fit.proofs.Window.{Accounts, accounts-start, accounts-releases, accounts-serve, fresh-idle, account-release}
+use Rattle.fit.proofs.Window.{Accounts, accounts-start, accounts-releases, accounts-serve, account-release}
 
 -- In a window no longer than the time the row was served at most the counted works.
 row-count : (time : ℕ) (count : TaskRecord → ℕ) (from clock : ℕ) (row : List TaskRecord) (ss : List Standing) (total : ℕ) →
@@ -144,8 +144,7 @@ module _ (row : List TaskRecord) (asked : TaskRecord) (time : ℕ) (count : Task
           (omega (arith, v .full))
 
   short-window : {clock : ℕ} {rs : List Standing} {a : Standing} → Beside row asked clock rs a → Short row asked time clock rs a
-  short-window (begins clock) =
-      restarts clock (map (λ (t : TaskRecord). unreleased) row) unreleased (length-map row (λ (t : TaskRecord). unreleased)) (fresh-idle row) refl
+  short-window (begins {clock = clock} {rs = rs} {a = a} h idle e) = restarts clock rs a h idle e
   short-window (row-slot {clock = clock} {rs′ = rs′} {a′ = a′} b r release busy said) =
       let v = short-window b in
       let late : v .from ≤ clock = omega (arith, v .full) in

@@ -4,38 +4,22 @@ use mathlib.Core.Path.{_≡_, refl, ap, sym, subst, _∙_}
 use native.Mathlib.Nat.{mul-assoc, mul-comm}
 use native.Mathlib.Omega.{arith}
 use Prim.Native.Nat.{ℕ, _+_, _*_, _/_, _%_, _≤_}
-use lib.ListN.{length, getD}
+use lib.ListN.{length}
 use Rattle.fit.proofs.Counts.{exact-rule}
 use Rattle.fit.proofs.Rounding.{covers}
+use Rattle.fit.proofs.Safe.{bounded-is-proper, safe-if-none-waits}
 use Rattle.fit.proofs.Shares.{share-rule}
-use Rattle.fit.specs.Lane.{Safe-task, Waits-past, no-task}
+use Rattle.fit.specs.Lane.{Safe-task}
 use Rattle.fit.specs.Tests.{Exact-yes, Grid-range, Linear-yes, line, requests, rounded-up, share}
 use Rattle.fit.specs.Theorems.{Covers, Proper}
 use Rattle.std.proofs.shelf.Bits.{div-add-mod'}
 use Rattle.std.proofs.shelf.Elements.{all-weaker}
-use Rattle.std.proofs.shelf.Lists.{getD-push}
 use Rattle.std.specs.shelf.Lists.{All}
 use Rattle.tasks.specs.Task.{Bounded, OnGrid, widest-grid}
 use Rattle.tasks.specs.declared.record.TaskRecord.{TaskRecord}
 
--- The asked task is not late where none of its jobs waits for a time within its limit.
-pub safe-within : (row : List TaskRecord) (asked : TaskRecord) (time : ℕ)
-    → time ≤ asked .limit → (Waits-past (row ++ (asked ∷ [])) (length row) time → ⊥) → Safe-task (row ++ (asked ∷ [])) (length row)
-safe-within row asked time within none late =
-    none (record {
-      lane = late .lane;
-      reached = late .reached;
-      job = late .job;
-      waits = late .waits;
-      past = omega (arith, late .past, ap (λ (t : TaskRecord). t .limit) (getD-push row asked no-task (length row) refl));
-    })
-
--- Bounded tasks have some work and a gap.
-proper : (t : TaskRecord) → Bounded widest-grid t → Proper t
-proper t h = (h .0 .0, omega arith)
-
 all-proper : (row : List TaskRecord) → All (Bounded widest-grid) row → All Proper row
-all-proper = all-weaker (Bounded widest-grid) Proper proper
+all-proper = all-weaker (Bounded widest-grid) Proper (bounded-is-proper widest-grid)
 
 -- Where the gap divides the grid, the share is the fraction itself.
 pub share-exact : (grid : ℕ) (t : TaskRecord) → OnGrid grid t → share grid t * t .gap ≡ grid * t .work
@@ -50,8 +34,8 @@ share-covers grid t on = omega (arith, share-exact grid t on)
 pub linear-safe : (grid : ℕ) (row : List TaskRecord) (asked : TaskRecord)
     → Grid-range grid → Linear-yes grid row asked → Safe-task (row ++ (asked ∷ [])) (length row)
 linear-safe grid row asked range h =
-    safe-within row asked (asked .limit) (omega arith)
-    (share-rule grid (share grid) row asked (asked .limit) (range .0) (all-proper row (h .askable .row-bounded)) (proper asked (h .askable .asked-bounded))
+    safe-if-none-waits row asked (asked .limit) (omega arith)
+    (share-rule grid (share grid) row asked (asked .limit) (range .0) (all-proper row (h .askable .row-bounded)) (bounded-is-proper widest-grid asked (h .askable .asked-bounded))
     (all-weaker (OnGrid grid) (Covers grid (share grid)) (share-covers grid) row (h .row-on-grid)) (share-covers grid asked (h .asked-on-grid))
     (h .in-time) (h .shares))
 
@@ -59,8 +43,8 @@ pub exact-safe : (row : List TaskRecord) (asked : TaskRecord)
     → Exact-yes row asked → Safe-task (row ++ (asked ∷ [])) (length row)
 exact-safe row asked h =
     let time = h .enough-time .time in
-    safe-within row asked time (h .enough-time .to-limit)
-    (exact-rule row asked time (λ t. rounded-up time (t .gap)) (omega arith) (all-proper row (h .askable .row-bounded)) (proper asked (h .askable .asked-bounded))
+    safe-if-none-waits row asked time (h .enough-time .to-limit)
+    (exact-rule row asked time (λ t. rounded-up time (t .gap)) (omega arith) (all-proper row (h .askable .row-bounded)) (bounded-is-proper widest-grid asked (h .askable .asked-bounded))
     (all-weaker (Bounded widest-grid) (λ t. time ≤ rounded-up time (t .gap) * t .gap) (λ t b. covers time (t .gap) (omega arith)) row
     (h .askable .row-bounded))
     (h .enough-time .room))

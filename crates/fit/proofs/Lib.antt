@@ -1,11 +1,13 @@
 pub mod Account
 pub mod Alive
+pub mod Apart
 pub mod Bounds
 pub mod Copies
 pub mod Counts
 pub mod Laws
 pub mod Prefix
 pub mod Rounding
+pub mod Safe
 pub mod Scans
 pub mod Service
 pub mod Shares

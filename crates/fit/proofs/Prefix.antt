@@ -11,13 +11,9 @@ use Rattle.std.specs.shelf.Lists.{Has}
 use Rattle.std.proofs.shelf.Lists.{take-append-drop, take-more, length-map, length-push, length-take-le, getD-take, getD-past, getD-push}
 use Rattle.std.proofs.shelf.Tests.{cases-lt}
 use Rattle.tasks.specs.declared.record.TaskRecord.{TaskRecord}
-use Rattle.fit.specs.Lane.{Standing, Lane, unreleased, Releases, no-more, stays, comes, serve, Reached, starts, slot, Waits-past, Safe-task, Safe-lane, no-task}
-use Rattle.fit.specs.Theorems.{Lower-tasks-never-disturb, Safe-in-turn, Accepted-in-turn, up-to}
+use Rattle.fit.specs.Lane.{Standing, Lane, unreleased, Releases, no-more, stays, comes, serve, Reached, starts, slot, Waits-past, Safe-task, no-task}
+use Rattle.fit.specs.Theorems.{alone, Lower-tasks-never-disturb, Waits-alone, up-to, Safe-in-turn, Accepted-lanes-are-safe}
 use Rattle.fit.proofs.Service.{Waiting, idle-or-waiting, serve-idle, serve-waiting}
-
--- The lane of the first tasks: the same clock, and the standings of those alone.
-abbrev pub first-of : List TaskRecord → Lane → Lane
-first-of row l = record { clock = l .clock; standings = take (length row) (l .standings) }
 
 first-fresh : (row below : List TaskRecord) →
     take (length row) (map (λ (t : TaskRecord). unreleased) (row ++ below)) ≡ map (λ (t : TaskRecord). unreleased) row
@@ -48,13 +44,13 @@ first-serve said (t ∷ row) below (s ∷ ss) = go (first-serve said row below s
         ap (take (suc (length row))) (serve-waiting said t (row ++ below) s ss w)
         ∙ sym (serve-waiting said t row s (take (length row) ss) w)
 
-pub first-reached : (row below : List TaskRecord) {l : Lane} → Reached (row ++ below) l → Reached row (first-of row l)
-first-reached row below (starts clock) =
+pub undisturbed : Lower-tasks-never-disturb
+undisturbed row below l′ (starts clock) =
     subst (λ (ss : List Standing). Reached row (record { clock = clock; standings = ss })) (sym (first-fresh row below)) (starts clock)
-first-reached row below (slot {l = l} {standings = ss} r releases said) =
+undisturbed row below l′ (slot {l = l} {standings = ss} r releases said) =
     subst (λ (after : List Standing). Reached row (record { clock = l .clock + 1; standings = after }))
     (sym (first-serve said row below ss))
-    (slot (first-reached row below r) (first-releases row below releases) said)
+    (slot (undisturbed row below l r) (first-releases row below releases) said)
 
 pub length-releases : {clock : ℕ} {row : List TaskRecord} {ss ss′ : List Standing} → Releases clock row ss ss′ → length ss′ ≡ length row
 length-releases no-more = refl
@@ -77,11 +73,11 @@ pub length-reached : (row : List TaskRecord) {l : Lane} → Reached row l → le
 length-reached row (starts clock) = length-map row (λ (t : TaskRecord). unreleased)
 length-reached row (slot {standings = ss} r releases said) = length-serve said row ss ∙ length-releases releases
 
-pub undisturbed : Lower-tasks-never-disturb
-undisturbed row below i time h late =
+pub waits-alone : Waits-alone
+waits-alone row below i time h late =
     record {
-      lane = first-of row (late .lane);
-      reached = first-reached row below (late .reached);
+      lane = alone row (late .lane);
+      reached = undisturbed row below (late .lane) (late .reached);
       job = late .job;
       waits = rw (getD-take (length row) (late .lane .standings) i unreleased h) (late .waits);
       past = late .past;
@@ -108,7 +104,7 @@ safe-over-those-before row k h safe late =
     safe
     (subst (λ (time : ℕ). Waits-past (up-to row k) k time)
     (ap (λ (t : TaskRecord). t .limit) (sym (getD-push (take k row) (getD row k no-task) no-task k (length-take-le k row below))))
-    (undisturbed (up-to row k) (drop (k + 1) row) k (getD row k no-task .limit) inside
+    (waits-alone (up-to row k) (drop (k + 1) row) k (getD row k no-task .limit) inside
     (subst (λ (all : List TaskRecord). Waits-past all k (getD row k no-task .limit)) (row-from-up-to row k h) late)))
   where
     below : k ≤ length row
@@ -125,7 +121,7 @@ lane-safe-in-turn row safe i =
 pub accepted-lanes-are-safe :
     (yes-to : List TaskRecord → TaskRecord → Type 0) →
     ((row : List TaskRecord) (asked : TaskRecord) → yes-to row asked → Safe-task (row ++ (asked ∷ [])) (length row)) →
-    (row : List TaskRecord) → Accepted-in-turn yes-to row → Safe-lane row
+    Accepted-lanes-are-safe yes-to
 accepted-lanes-are-safe yes-to law row accepted =
     lane-safe-in-turn row
     (λ k h.

@@ -1,5 +1,5 @@
 -- The share rule: over any scale and any shares that are at least their fractions, no job waits for the time that the rule gives.
-use mathlib.Core.Path.{_≡_, sym, ap, _∙_}
+use mathlib.Core.Path.{_≡_, ap}
 use mathlib.Core.List.{List, [], _∷_}
 use Prim.Native.Nat.{ℕ, zero, suc, _+_, _-_, _*_, _≤_, _<_}
 use native.Mathlib.Nat.{mul-zero, zero-mul, suc-mul, mul-add, add-mul, mul-one, one-mul, mul-left-comm, mul-le-mul-left, mul-le-mul-right}
@@ -8,9 +8,9 @@ use lib.ListN.{length}
 use Rattle.std.specs.shelf.Lists.{All, sumBy}
 use Rattle.std.proofs.shelf.Sums.{sumBy-cons}
 use Rattle.tasks.specs.declared.record.TaskRecord.{TaskRecord}
-use Rattle.fit.specs.Lane.{Standing, Waits-past}
-use Rattle.fit.specs.Theorems.{Proper, Covers, Shares-bound-waiting}
-use Rattle.fit.proofs.Account.{Account, served-within, waiting-release}
+use Rattle.fit.specs.Lane.{Standing}
+use Rattle.fit.specs.Theorems.{Covers, Shares-bound-waiting}
+use Rattle.fit.proofs.Account.{served-within, waiting-release}
 use Rattle.fit.proofs.Split.{Seen, seen, asked-waits}
 use Rattle.fit.proofs.Window.{Accounts, Window, window}
 

@@ -2,8 +2,8 @@
 use mathlib.Core.Path.{_≡_, refl, sym, ap, subst, _∙_}
 use mathlib.Core.Bool.{Bool}
 use mathlib.Core.List.{List, [], _∷_, _++_, map}
-use mathlib.Core.Logic.{_⊎_, inl, inr, ⊎-elim}
-use Prim.Native.Nat.{ℕ, suc, _+_}
+use mathlib.Core.Logic.{_⊎_, inl, inr}
+use Prim.Native.Nat.{ℕ, _+_}
 use native.Mathlib.Omega.{arith}
 use lib.ListN.{length, getD}
 use Rattle.std.specs.shelf.Lists.{All, Has}
@@ -92,9 +92,9 @@ part (t ∷ row) below [] ss h r = absurd (omega arith)
 part (t ∷ row) below (s ∷ rs) ss h (stays r) = parted-stays (part row below rs ss (omega arith) r)
 part (t ∷ row) below (s ∷ rs) ss h (comes may r) = parted-comes may (part row below rs ss (omega arith) r)
 
--- A run of the lane of a row and one task: the row's standings, and the task's.
+-- A run of the lane of a row and one task: the row's standings, and the task's. It begins where nothing waits.
 pub data Beside (row : List TaskRecord) (asked : TaskRecord) : ℕ → List Standing → Standing → Type 0 where
-  begins : (clock : ℕ) → Beside row asked clock (map (λ (t : TaskRecord). unreleased) row) unreleased
+  begins : {clock : ℕ} {rs : List Standing} {a : Standing} → length rs ≡ length row → Idle rs → a .waiting ≡ [] → Beside row asked clock rs a
   row-slot : {clock : ℕ} {rs rs′ : List Standing} {a a′ : Standing} →
       Beside row asked clock rs a → Releases clock row rs rs′ → Releases clock (asked ∷ []) (a ∷ []) (a′ ∷ []) →
       Busy rs′ → (said : Bool) → Beside row asked (clock + 1) (serve said row rs′) a′
@@ -107,7 +107,7 @@ pub data Beside (row : List TaskRecord) (asked : TaskRecord) : ℕ → List Stan
 
 pub length-beside : {row : List TaskRecord} {asked : TaskRecord} {clock : ℕ} {rs : List Standing} {a : Standing} →
     Beside row asked clock rs a → length rs ≡ length row
-length-beside {row} (begins clock) = length-map row (λ (t : TaskRecord). unreleased)
+length-beside (begins h idle e) = h
 length-beside {row} (row-slot {rs′ = rs′} b r one busy said) = length-serve said row rs′ ∙ length-releases r
 length-beside (asked-slot b r one idle w said) = length-releases r
 length-beside (idle-slot b r one idle e) = length-releases r
@@ -164,6 +164,10 @@ one-release {a = a} (stays no-more) = record { after = a; is = refl; release = s
 one-release {clock} {a = a} (comes may no-more) =
     record { after = with-job clock a; is = refl; release = comes may no-more }
 
+fresh-idle : (row : List TaskRecord) → Idle (map (λ (t : TaskRecord). unreleased) row)
+fresh-idle [] = tt
+fresh-idle (t ∷ row) = (refl, fresh-idle row)
+
 -- Every state that a run of the lane reaches.
 pub seen : (row : List TaskRecord) (asked : TaskRecord) {l : Lane} → Reached (row ++ (asked ∷ [])) l → Seen row asked l
 seen row asked (starts clock) =
@@ -171,7 +175,7 @@ seen row asked (starts clock) =
       row-standings = map (λ (t : TaskRecord). unreleased) row;
       asked-standing = unreleased;
       is = map-push (λ (t : TaskRecord). unreleased) row asked;
-      run = begins clock;
+      run = begins (length-map row (λ (t : TaskRecord). unreleased)) (fresh-idle row) refl;
     }
 seen row asked (slot {l = l} {standings = all} reached releases said) = go (seen row asked reached)
   where

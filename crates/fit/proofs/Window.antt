@@ -1,19 +1,18 @@
 -- Every state of a lane ends a busy window: since its start each slot was served, and each task has an account.
-use mathlib.Core.Path.{_≡_, refl, sym, ap, subst, _∙_}
+use mathlib.Core.Path.{_≡_, refl, sym, subst}
 use mathlib.Core.Bool.{Bool}
-use mathlib.Core.List.{List, [], _∷_, map}
-use mathlib.Core.Logic.{_⊎_, inl, inr}
+use mathlib.Core.List.{List, [], _∷_}
+use mathlib.Core.Logic.{inl, inr}
 use Prim.Native.Nat.{ℕ, _+_, _≤_}
 use native.Mathlib.Omega.{arith}
 use lib.ListN.{length}
 use Rattle.std.specs.shelf.Lists.{All}
-use Rattle.std.proofs.shelf.Lists.{length-map}
 use Rattle.tasks.specs.declared.record.TaskRecord.{TaskRecord}
-use Rattle.fit.specs.Lane.{Standing, unreleased, Releases, no-more, stays, comes, serve}
+use Rattle.fit.specs.Lane.{Standing, Releases, no-more, stays, comes, serve}
 use Rattle.fit.specs.Theorems.{Proper}
 use Rattle.fit.proofs.Account.{Account, account-start, account-stays, account-comes, account-served}
 use Rattle.fit.proofs.Prefix.{length-releases}
-use Rattle.fit.proofs.Service.{Waiting, serve-idle, serve-waiting}
+use Rattle.fit.proofs.Service.{serve-idle, serve-waiting}
 use Rattle.fit.proofs.Split.{Idle, Busy, Beside, begins, row-slot, asked-slot, idle-slot}
 
 -- The accounts of a row of tasks, which were served `total` slots together.
@@ -52,10 +51,6 @@ accounts-serve from clock said (t ∷ row) (s ∷ ss) total proper (inr b) h =
     subst (λ (after : List Standing). Accounts from clock (t ∷ row) after (total + 1)) (sym (serve-idle said t row s ss (b .0)))
     (h .0, h .1, h .2 + 1, omega (arith, h .3), h .4, accounts-serve from clock said row ss (h .2) (proper .1) (b .1) (h .5))
 
-pub fresh-idle : (row : List TaskRecord) → Idle (map (λ (t : TaskRecord). unreleased) row)
-fresh-idle [] = tt
-fresh-idle (t ∷ row) = (refl, fresh-idle row)
-
 -- The last task releases a job, or it does not.
 pub account-release : {clock closed served : ℕ} {asked : TaskRecord} {a a′ : Standing} (from : ℕ) → Proper asked → from ≤ clock →
     Releases clock (asked ∷ []) (a ∷ []) (a′ ∷ []) → Account from clock asked a closed served → Account from (clock + 1) asked a′ closed served
@@ -73,19 +68,23 @@ pub record Window (row : List TaskRecord) (asked : TaskRecord) (clock : ℕ) (rs
   -- every slot since the start was served
   pub full : from + (total + served) ≡ clock
 
-pub window : {row : List TaskRecord} {asked : TaskRecord} {clock : ℕ} {rs : List Standing} {a : Standing} → All Proper row → Proper asked →
-    Beside row asked clock rs a → Window row asked clock rs a
-window {row} {asked} proper one (begins clock) =
+-- Where nothing waits a window starts.
+starts-here : {row : List TaskRecord} {asked : TaskRecord} (clock : ℕ) (rs : List Standing) (a : Standing) → All Proper row → Proper asked →
+    length rs ≡ length row → Idle rs → a .waiting ≡ [] → Window row asked clock rs a
+starts-here {row} {asked} clock rs a proper one h idle e =
     record {
       from = clock;
       total = 0;
       closed = 0;
       served = 0;
-      row-accounts =
-          accounts-start clock row (map (λ (t : TaskRecord). unreleased) row) proper (length-map row (λ (t : TaskRecord). unreleased)) (fresh-idle row);
-      asked-account = account-start clock asked unreleased one refl;
+      row-accounts = accounts-start clock row rs proper h idle;
+      asked-account = account-start clock asked a one e;
       full = omega arith;
     }
+
+pub window : {row : List TaskRecord} {asked : TaskRecord} {clock : ℕ} {rs : List Standing} {a : Standing} → All Proper row → Proper asked →
+    Beside row asked clock rs a → Window row asked clock rs a
+window {clock = clock} {rs = rs} {a = a} proper one (begins h idle e) = starts-here clock rs a proper one h idle e
 window {row} proper one (row-slot {clock = clock} {rs′ = rs′} b r release busy said) =
     let v = window proper one b in
     let late : v .from ≤ clock = omega (arith, v .full) in
@@ -113,13 +112,5 @@ window {row} proper one (asked-slot {clock = clock} {rs′ = rs′} b r release 
       asked-account = a .1;
       full = omega (arith, v .full);
     }
-window {row} {asked} {a = a} proper one (idle-slot {clock = clock} {rs′ = rs′} b r release idle e) =
-    record {
-      from = clock + 1;
-      total = 0;
-      closed = 0;
-      served = 0;
-      row-accounts = accounts-start (clock + 1) row rs′ proper (length-releases r) idle;
-      asked-account = account-start (clock + 1) asked a one e;
-      full = omega arith;
-    }
+window {a = a} proper one (idle-slot {clock = clock} {rs′ = rs′} b r release idle e) =
+    starts-here (clock + 1) rs′ a proper one (length-releases r) idle e

@@ -10,7 +10,7 @@ use lib.ListN.{getD}
 use Rattle.std.specs.Options.{Cases}
 use Rattle.std.proofs.shelf.Tests.{leb-false, lt-leb}
 use Rattle.tasks.specs.declared.record.TaskRecord.{TaskRecord}
-use Rattle.fit.specs.Lane.{Job, Standing, Lane, unreleased, May-release, Releases, no-more, stays, comes, served-once, closes, after-service, serve, Reached, starts, slot, Waits-past, no-task}
+use Rattle.fit.specs.Lane.{Job, Standing, Lane, unreleased, May-release, Releases, no-more, stays, comes, served-once, closes, serve, Reached, starts, slot, Waits-past, no-task}
 use Rattle.fit.specs.Theorems.{Raises, Raised, Larger-works-wait-no-less, Safe-with-larger-works}
 use Rattle.fit.proofs.Service.{Waiting, idle-or-waiting, serve-idle, serve-waiting}
 

@@ -7,12 +7,19 @@ use Rattle.std.specs.Vec.{Each}
 use Rattle.std.specs.declared.option.Option.the-variants.{Some}
 use Rattle.std.specs.shelf.Lists.{All, sumBy}
 use Rattle.tasks.specs.declared.record.TaskRecord.{TaskRecord}
-use Rattle.fit.specs.Lane.{Job, Lane, Reached, Waits-past, LateJob, Safe-task, Safe-lane, no-task}
+use Rattle.fit.specs.Lane.{Job, Lane, unreleased, May-release, Reached, Waits-past, LateJob, Safe-task, Safe-lane, no-task}
 
--- Lower tasks never disturb higher ones: whatever stands below a row,
--- its job that waits for some time does so in a run of the row alone.
+-- The lane of a row's tasks alone: the same clock, and their standings.
+abbrev pub alone : List TaskRecord → Lane → Lane
+alone row l = record { clock = l .clock; standings = take (length row) (l .standings) }
+
+-- Lower tasks never disturb higher ones: the first tasks of a lane, in any run of it, make a run of the lane of those tasks alone.
 abbrev pub Lower-tasks-never-disturb : Type 0
-Lower-tasks-never-disturb =
+Lower-tasks-never-disturb = (row below : List TaskRecord) (l : Lane) → Reached (row ++ below) l → Reached row (alone row l)
+
+-- So a job of theirs that waits for some time does so in a run of those tasks alone.
+abbrev pub Waits-alone : Type 0
+Waits-alone =
     (row below : List TaskRecord) (i time : ℕ) → i < length row → Waits-past (row ++ below) i time → Waits-past row i time
 
 -- The lane of the row's first k tasks, and then its task k.
@@ -81,6 +88,22 @@ Counts-bound-waiting =
 -- Each task of the row was accepted over those before it, where these are the questions with a yes.
 abbrev pub Accepted-in-turn : (List TaskRecord → TaskRecord → Type 0) → List TaskRecord → Type 0
 Accepted-in-turn yes-to row = (k : ℕ) → k < length row → yes-to (take k row) (getD row k no-task)
+
+-- A lane whose every task was accepted over those before it has no late job in any run.
+abbrev pub Accepted-lanes-are-safe : (List TaskRecord → TaskRecord → Type 0) → Type 0
+Accepted-lanes-are-safe yes-to = (row : List TaskRecord) → Accepted-in-turn yes-to row → Safe-lane row
+
+-- A safe task never has more jobs than places, where that many gaps cover its limit:
+-- whenever it may release a job, fewer wait.
+abbrev pub Room-for-a-release : Type 0
+Room-for-a-release =
+    (row : List TaskRecord) (i places : ℕ) (l : Lane) →
+    Safe-task row i →
+    1 ≤ places →
+    getD row i no-task .limit ≤ places * getD row i no-task .gap →
+    Reached row l →
+    May-release (l .clock) (getD row i no-task) (getD (l .standings) i unreleased) →
+    length (getD (l .standings) i unreleased .waiting) < places
 
 -- A task with this work, limit and gap.
 abbrev pub task : ℕ → ℕ → ℕ → TaskRecord
