@@ -3,9 +3,9 @@ use mathlib.Core.Path.{_≡_}
 use native.Mathlib.Nat.{div-mul-le-self}
 use native.Mathlib.Omega.{arith}
 use Prim.Native.Nat.{ℕ, _+_, _*_, _/_, _^_, _≤_}
-use Rattle.fit.specs.Tests.{Grid-range, line, share}
+use Rattle.fit.specs.Tests.{line, share}
 use Rattle.std.proofs.shelf.Bits.{mul-le, div-add-mod'}
-use Rattle.tasks.specs.Task.{Bounded, widest-grid}
+use Rattle.tasks.specs.Task.{Bounded, Grid-range, widest-grid}
 use Rattle.tasks.specs.declared.record.TaskRecord.{TaskRecord}
 
 -- A share is at most the whole grid, since the work is at most the gap.

@@ -10,12 +10,12 @@ use Rattle.fit.proofs.Rounding.{covers}
 use Rattle.fit.proofs.Safe.{bounded-is-proper, safe-if-none-waits}
 use Rattle.fit.proofs.Shares.{share-rule}
 use Rattle.fit.specs.Lane.{Safe-task}
-use Rattle.fit.specs.Tests.{Exact-yes, Grid-range, Linear-yes, line, requests, rounded-up, share}
+use Rattle.fit.specs.Tests.{Exact-yes, Linear-yes, line, requests, rounded-up, share}
 use Rattle.fit.specs.Theorems.{Covers, Proper}
 use Rattle.std.proofs.shelf.Bits.{div-add-mod'}
 use Rattle.std.proofs.shelf.Elements.{all-weaker}
 use Rattle.std.specs.shelf.Lists.{All}
-use Rattle.tasks.specs.Task.{Bounded, OnGrid, widest-grid}
+use Rattle.tasks.specs.Task.{Bounded, Grid-range, OnGrid, widest-grid}
 use Rattle.tasks.specs.declared.record.TaskRecord.{TaskRecord}
 
 all-proper : (row : List TaskRecord) → All (Bounded widest-grid) row → All Proper row

@@ -10,12 +10,12 @@ use lib.Signed.{_≤ℤ_}
 use borrow.Author.Differences.{at-most-in, down, le-out, neg-is, product-is, sum-is, up}
 use Rattle.fit.proofs.Laws.{share-exact}
 use Rattle.fit.specs.Fractions.{Fraction, Linear-is-the-standard, RBF*, Standard, utilization, whole, Σᶠ, _*ᶠ_, _+ᶠ_, _-ᶠ_, _÷_, _≥ᶠ_}
-use Rattle.fit.specs.Tests.{Askable, Grid-range, Linear-yes, line, share}
+use Rattle.fit.specs.Tests.{Askable, Linear-yes, line, share}
 use Rattle.std.proofs.shelf.Signed.{ints}
 use Rattle.std.proofs.shelf.Sums.{sumBy-cons}
 use Rattle.std.proofs.shelf.Tests.{cases-lt}
 use Rattle.std.specs.shelf.Lists.{All, sumBy}
-use Rattle.tasks.specs.Task.{Bounded, OnGrid, widest-grid}
+use Rattle.tasks.specs.Task.{Bounded, Grid-range, OnGrid, widest-grid}
 use Rattle.tasks.specs.declared.record.TaskRecord.{TaskRecord}
 
 -- x is worth k over G: it is a proper fraction n/b, and n/b = k/G.

@@ -4,9 +4,9 @@ use mathlib.Core.Logic.{_↔_}
 use Prim.Native.Nat.{ℕ, _*_, _≤_}
 use lib.IntN.{ℤ, pos, _+ℤ_, _-ℤ_, _*ℤ_}
 use lib.Signed.{_≤ℤ_}
-use Rattle.fit.specs.Tests.{Askable, Grid-range, Linear-yes}
+use Rattle.fit.specs.Tests.{Askable, Linear-yes}
 use Rattle.std.specs.shelf.Lists.{All}
-use Rattle.tasks.specs.Task.{OnGrid}
+use Rattle.tasks.specs.Task.{Grid-range, OnGrid}
 use Rattle.tasks.specs.declared.record.TaskRecord.{TaskRecord}
 
 infixl 7 _÷_

@@ -22,10 +22,6 @@ pub record Askable (row : List TaskRecord) (asked : TaskRecord) : Type 0 where
 
 -- ---- Linear
 
--- The grids that a linear test may hold.
-abbrev pub Grid-range : ℕ → Type 0
-Grid-range grid = (1 ≤ grid) × (grid ≤ widest-grid)
-
 -- A task's utilization e/p, counted in parts of the grid: e * (G/p).
 abbrev pub share : ℕ → TaskRecord → ℕ
 share grid t = t .work * (grid / t .gap)

@@ -15,10 +15,16 @@ use crate::question::FitTest;
 use tasks::fault::ListFault;
 use tasks::fault::Setting;
 use tasks::record::TaskRecord;
-use tasks::table::BLANK;
 
 // The highest switch cost.
 const HIGHEST_COST: u32 = 1_000;
+
+// What stands past the row's end.
+const NO_TASK: TaskRecord = TaskRecord {
+    work: 0,
+    limit: 0,
+    gap: 0,
+};
 
 // The test below, asked about works with the switch cost added.
 #[derive(Drop)]
@@ -95,7 +101,7 @@ fn raised_row(cost: u32, row: &[TaskRecord]) -> [TaskRecord; LONGEST_ROW]
     ensures len { λ r. ⌜ length r ≡ 31 ⌝ }
     ensures front { λ r. ⌜ take (length (now (row .entry))) r ≡ map (raised cost) (now (row .entry)) ⌝ }
 {
-    let mut dear = [BLANK; LONGEST_ROW];
+    let mut dear = [NO_TASK; LONGEST_ROW];
     for (i, t) in row.iter().enumerate() {
         dear[i] = raised_task(cost, *t);
     }

@@ -10,11 +10,28 @@ use fit::surcharge::Surcharge;
 use fit::surcharge::SurchargeFit;
 use std::test::*;
 use tasks::fault::ListFault;
-use tasks::fault::ListFaultDebug;
 use tasks::record::TaskRecord;
 
 fn task(work: u32, limit: u32, gap: u32) -> TaskRecord {
     TaskRecord { work, limit, gap }
+}
+
+// A test whose setting is in range.
+fn made<T>(test: Result<T, ListFault>) -> Result<T, Fail> {
+    match test {
+        Ok(test) => Ok(test),
+        Err(_) => Err(Fail::new("a setting out of range")),
+    }
+}
+
+// The linear test over a grid in range.
+fn linear(grid: u32) -> Result<Linear, Fail> {
+    made(Linear::new(grid))
+}
+
+// A surcharge over a test, of a cost in range.
+fn dearer<T: FitTest + Drop>(below: T, cost: u32) -> Result<Surcharge<T>, Fail> {
+    made(Surcharge::new(below, cost))
 }
 
 // What linear over a grid, and exact, say to a question.
@@ -22,11 +39,11 @@ fn say(
     grid: u32,
     row: &[TaskRecord],
     asked: TaskRecord,
-    linear: bool,
-    exact: bool,
+    by_linear: bool,
+    by_exact: bool,
 ) -> Result<(), Fail> {
-    check_eq(Linear::new(grid)?.fits(row, asked), linear)?;
-    check_eq(Exact.fits(row, asked), exact)
+    check_eq(linear(grid)?.fits(row, asked), by_linear)?;
+    check_eq(Exact.fits(row, asked), by_exact)
 }
 
 #[test]
@@ -48,21 +65,21 @@ fn worked_examples() -> Result<(), Fail> {
 fn switch_costs() -> Result<(), Fail> {
     let row = [task(1, 4, 5)];
     let asked = task(2, 6, 10);
-    check(!Surcharge::new(Linear::new(60)?, 1)?.fits(&row, asked))?;
-    check(Surcharge::new(Exact, 1)?.fits(&row, asked))?;
+    check(!dearer(linear(60)?, 1)?.fits(&row, asked))?;
+    check(dearer(Exact, 1)?.fits(&row, asked))?;
     let either = Either {
-        first: Linear::new(60)?,
+        first: linear(60)?,
         second: Exact,
     };
     check(either.fits(&row, asked))?;
-    let dear = Surcharge::new(either, 1)?;
+    let dear = dearer(either, 1)?;
     check(dear.fits(&row, asked))?;
     check(dear.fits(&[], task(3, 4, 60)))?;
     check(!dear.fits(&[], task(4, 4, 60)))?;
     check(!dear.fits(&[], task(5, 8, 5)))?;
     check(!dear.fits(&[], task(0, 4, 60)))?;
     check(!dear.fits(&[task(4, 4, 60)], task(1, 60, 60)))?;
-    check(Surcharge::new(dear, 1)?.fits(&[], task(2, 4, 60)))
+    check(dearer(dear, 1)?.fits(&[], task(2, 4, 60)))
 }
 
 // A row may have 31 tasks, and no more.
@@ -71,7 +88,7 @@ fn long_rows() -> Result<(), Fail> {
     let row = [task(1, 128, 128); 32];
     say(128, &row[0..31], row[31], true, true)?;
     say(128, &row, row[31], false, false)?;
-    let free = Surcharge::new(Exact, 0)?;
+    let free = dearer(Exact, 0)?;
     check(free.fits(&row[0..31], row[31]))?;
     check(!free.fits(&row, row[31]))
 }
@@ -91,7 +108,7 @@ fn long_limits() -> Result<(), Fail> {
 // A bound kept and then broken by one: asked alone, and in the row above a task that wants next to nothing.
 fn keeps(kept: TaskRecord, broken: TaskRecord) -> Result<(), Fail> {
     let test = Either {
-        first: Linear::new(16_777_216)?,
+        first: linear(16_777_216)?,
         second: Exact,
     };
     let little = task(1, 1_048_576, 16_777_216);
@@ -105,28 +122,21 @@ fn keeps(kept: TaskRecord, broken: TaskRecord) -> Result<(), Fail> {
 fn bounds() -> Result<(), Fail> {
     keeps(task(1, 4, 4), task(0, 4, 4))?;
     keeps(task(4, 4, 8), task(5, 4, 8))?;
-    keeps(task(1, 1, 16_777_216), task(1, 1, 16_777_217))?;
-    keeps(
-        task(1, 1_048_576, 16_777_216),
-        task(1, 1_048_577, 16_777_216),
-    )?;
+    let widest = 16_777_216;
+    keeps(task(1, 1, widest), task(1, 1, 16_777_217))?;
+    keeps(task(1, 1_048_576, widest), task(1, 1_048_577, widest))?;
     keeps(task(1, 16, 4), task(1, 17, 4))?;
     say(4, &[], task(4, 8, 4), true, false)?;
     say(4, &[], task(5, 8, 4), false, false)?;
     say(4, &[], task(1, 0, 0), false, false)?;
-    say(
-        4,
-        &[],
-        task(4_294_967_295, 4_294_967_295, 4_294_967_295),
-        false,
-        false,
-    )
+    let most = u32::MAX;
+    say(4, &[], task(most, most, most), false, false)
 }
 
 // The number and the place of a refusal.
-fn refused<T: Drop>(made: Result<T, ListFault>, place: usize) -> Result<(), Fail> {
-    match made {
-        Ok(_) => Err(Fail::new("made")),
+fn refused<T: Drop>(test: Result<T, ListFault>, place: usize) -> Result<(), Fail> {
+    match test {
+        Ok(_) => Err(Fail::new("a setting that is not refused")),
         Err(fault) => {
             check_eq(fault.number(), 7)?;
             check_eq(fault.place(), place)
@@ -139,8 +149,8 @@ fn settings() -> Result<(), Fail> {
     refused(Linear::new(0), 0)?;
     refused(Linear::new(16_777_217), 0)?;
     refused(Surcharge::new(Exact, 1_001), 2)?;
-    check_eq(Linear::new(1)?.grid(), 1)?;
-    check_eq(Linear::new(16_777_216)?.grid(), 16_777_216)?;
-    check_eq(Surcharge::new(Exact, 0)?.cost(), 0)?;
-    check_eq(Surcharge::new(Exact, 1_000)?.cost(), 1_000)
+    check_eq(linear(1)?.grid(), 1)?;
+    check_eq(linear(16_777_216)?.grid(), 16_777_216)?;
+    check_eq(dearer(Exact, 0)?.cost(), 0)?;
+    check_eq(dearer(Exact, 1_000)?.cost(), 1_000)
 }

@@ -4,6 +4,7 @@ use mathlib.Core.List.{List, [], _++_}
 use Prim.Native.Nat.{ℕ, _+_, _<_}
 use denote.Ref.{now}
 use lib.ListN.{length, drop}
+use Rattle.std.specs.Holes.{between}
 use Rattle.std.specs.declared.option.Option.{Option}
 use Rattle.std.specs.declared.option.Option.the-variants.{None, Some}
 use Rattle.std.specs.declared.result.Result.{Result}
@@ -34,10 +35,11 @@ name-said (Some part) = now (part .bytes)
 abbrev pub entry-said : SheetRecord → Entry
 entry-said r = record { work = r .work; limit = r .limit; gap = r .gap; name = name-said (r .name) }
 
--- A name that is handed out has bytes, and the first of them stands at this offset of the sheet.
-abbrev pub Name-at : ℕ → Option Part → Type 0
-Name-at place None = Unit {0}
-Name-at place (Some part) = (part .place ≡ place) × (0 < length (now (part .bytes)))
+-- A name that is handed out has bytes, and is that part of the sheet which begins at this offset.
+abbrev pub Name-at : List ℕ → ℕ → Option Part → Type 0
+Name-at sheet place None = Unit {0}
+Name-at sheet place (Some part) =
+    (part .place ≡ place) × (0 < length (now (part .bytes))) × (now (part .bytes) ≡ between place (place + length (now (part .bytes))) sheet)
 
 -- The reader went over one entry, and nothing else of it changed.
 pub record Went-over (e : Entry) (before after : Reader) : Type 0 where
@@ -51,5 +53,5 @@ pub record Went-over (e : Entry) (before after : Reader) : Type 0 where
 -- The next record: none exactly at the end, and a refusal changes nothing.
 abbrev pub Next : Reader → Result (Option SheetRecord) SheetFault → Reader → Type 0
 Next before (Ok None) after = (unread before ≡ []) × (after ≡ before)
-Next before (Ok (Some r)) after = Name-at (before .at + 13) (r .name) × Went-over (entry-said r) before after
+Next before (Ok (Some r)) after = Name-at (now (before .bytes)) (before .at + 13) (r .name) × Went-over (entry-said r) before after
 Next before (Err fault) after = No-record (before .at) (unread before) fault × (after ≡ before)

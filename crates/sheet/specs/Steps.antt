@@ -20,7 +20,7 @@ First-unprintable name (Some i) =
 -- The record whose length byte stands at `at` and whose last byte stands before `end`.
 pub record Record-at (bytes : List ℕ) (at end : ℕ) (r : SheetRecord) : Type 0 where
   pub name : name-said (r .name) ≡ between (at + 13) end bytes
-  pub name-at : Name-at (at + 13) (r .name)
+  pub name-at : Name-at bytes (at + 13) (r .name)
   pub work : drop (at + 1) bytes ≡ four-bytes (r .work) ++ drop (at + 5) bytes
   pub limit : drop (at + 5) bytes ≡ four-bytes (r .limit) ++ drop (at + 9) bytes
   pub gap : drop (at + 9) bytes ≡ four-bytes (r .gap) ++ drop (at + 13) bytes

@@ -19,6 +19,12 @@ Bounded widest t = Work-fits t × In-ranges widest t
 abbrev pub widest-grid : ℕ
 widest-grid = 16777216
 
+abbrev pub Grid-range : ℕ → Type 0
+Grid-range grid = (1 ≤ grid) × (grid ≤ widest-grid)
+
+abbrev pub Lane-range : ℕ → Type 0
+Lane-range lanes = (1 ≤ lanes) × (lanes ≤ 4)
+
 -- The gap divides the grid.
 abbrev pub OnGrid : ℕ → TaskRecord → Type 0
 OnGrid grid t = grid % t .gap ≡ 0

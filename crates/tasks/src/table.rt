@@ -4,11 +4,13 @@ ghost use Prim.Native.Nat.{_≤_};
 ghost use lib.ListN.{length};
 use crate::record::TaskRecord;
 
+mod work;
+
 // The most tasks a list may have.
 pub const MOST_TASKS: usize = 32;
 
 // What stands in a place that holds no task.
-pub const BLANK: TaskRecord = TaskRecord {
+const BLANK: TaskRecord = TaskRecord {
     work: 0,
     limit: 0,
     gap: 0,

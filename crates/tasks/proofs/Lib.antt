@@ -1,0 +1,3 @@
+pub mod Records
+pub mod Scan
+pub mod Tables
