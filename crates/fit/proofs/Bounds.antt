@@ -1,8 +1,6 @@
 -- What the numbers of a bounded task cannot pass.
-use mathlib.Core.Path.{_≡_}
-use native.Mathlib.Nat.{div-mul-le-self}
 use native.Mathlib.Omega.{arith}
-use Prim.Native.Nat.{ℕ, _+_, _*_, _/_, _^_, _≤_}
+use Prim.Native.Nat.{ℕ, _/_, _^_, _≤_}
 use Rattle.fit.specs.Tests.{line, share}
 use Rattle.std.proofs.shelf.Bits.{mul-le, div-add-mod'}
 use Rattle.tasks.specs.Task.{Bounded, Grid-range, widest-grid}

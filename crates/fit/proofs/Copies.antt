@@ -1,9 +1,9 @@
 -- A loop that writes what a function makes of each element into another list leaves the mapped list there;
 -- and a row with raised works is a raised row.
 use mathlib.Core.List.{List, [], _∷_, _++_, map}
-use mathlib.Core.Path.{_≡_, refl, ap, sym, subst, _∙_}
+use mathlib.Core.Path.{_≡_, refl, ap, sym, _∙_}
 use native.Mathlib.Omega.{arith}
-use Prim.Native.Nat.{ℕ, _+_, _<_, _≤_}
+use Prim.Native.Nat.{ℕ, _+_, _<_}
 use lib.ListN.{length, getD, set, take}
 use Rattle.fit.specs.Tests.{raised}
 use Rattle.fit.specs.Theorems.{Raised}

@@ -1,16 +1,16 @@
 -- A yes of the linear or the exact test keeps the law of a fit test, by the share rule and the exact rule.
 use mathlib.Core.List.{List, [], _∷_, _++_}
-use mathlib.Core.Path.{_≡_, refl, ap, sym, subst, _∙_}
+use mathlib.Core.Path.{_≡_, ap, _∙_}
 use native.Mathlib.Nat.{mul-assoc, mul-comm}
 use native.Mathlib.Omega.{arith}
-use Prim.Native.Nat.{ℕ, _+_, _*_, _/_, _%_, _≤_}
+use Prim.Native.Nat.{ℕ, _*_, _/_, _≤_}
 use lib.ListN.{length}
 use Rattle.fit.proofs.Counts.{exact-rule}
 use Rattle.fit.proofs.Rounding.{covers}
 use Rattle.fit.proofs.Safe.{bounded-is-proper, safe-if-none-waits}
 use Rattle.fit.proofs.Shares.{share-rule}
 use Rattle.fit.specs.Lane.{Safe-task}
-use Rattle.fit.specs.Tests.{Exact-yes, Linear-yes, line, requests, rounded-up, share}
+use Rattle.fit.specs.Tests.{Exact-yes, Linear-yes, rounded-up, share}
 use Rattle.fit.specs.Theorems.{Covers, Proper}
 use Rattle.std.proofs.shelf.Bits.{div-add-mod'}
 use Rattle.std.proofs.shelf.Elements.{all-weaker}

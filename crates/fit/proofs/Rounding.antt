@@ -4,7 +4,7 @@ use mathlib.Core.Logic.{⊎-elim}
 use mathlib.Core.Path.{_≡_, ap}
 use native.Mathlib.Nat.{add-mul, one-mul, mul-le-mul-right}
 use native.Mathlib.Omega.{arith}
-use Prim.Native.Nat.{ℕ, suc, min, _+_, _*_, _/_, _%_, _<_, _≤_}
+use Prim.Native.Nat.{ℕ, min, _+_, _*_, _/_, _%_, _<_, _≤_}
 use Rattle.fit.proofs.Totals.{sumBy-grows}
 use Rattle.fit.specs.Tests.{Askable, requests, rounded-up}
 use Rattle.std.proofs.shelf.Bits.{div-add-mod', mod-below, mul-le}

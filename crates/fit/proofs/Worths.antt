@@ -1,21 +1,18 @@
 -- Fractions that are worth whole numbers of G-ths add up and compare as those numbers do, so linear is the standard.
 use mathlib.Core.List.{List, [], _∷_}
-use mathlib.Core.Logic.{⊎-elim}
 use mathlib.Core.Path.{_≡_, refl, ap, sym, subst, subst₃, _∙_}
-use native.Mathlib.Nat.{add-mul, mul-add, mul-assoc, mul-comm, mul-one, mul-pos, mul-right-comm, mul-zero, zero-mul, mul-le-mul-right, le-of-mul-le-mul-right}
+use native.Mathlib.Nat.{add-mul, mul-assoc, mul-comm, mul-one, mul-pos, mul-right-comm, mul-zero, zero-mul, mul-le-mul-right, le-of-mul-le-mul-right}
 use native.Mathlib.Omega.{arith}
-use Prim.Native.Nat.{ℕ, suc, _+_, _-_, _*_, _<_, _≤_}
-use lib.IntN.{ℤ, pos, negsuc, _+ℤ_, _-ℤ_, _*ℤ_, negℤ}
+use Prim.Native.Nat.{ℕ, _+_, _-_, _*_, _≤_}
+use lib.IntN.{ℤ, pos, _+ℤ_, _-ℤ_, _*ℤ_, negℤ}
 use lib.Signed.{_≤ℤ_}
 use borrow.Author.Differences.{at-most-in, down, le-out, neg-is, product-is, sum-is, up}
 use Rattle.fit.proofs.Laws.{share-exact}
-use Rattle.fit.specs.Fractions.{Fraction, Linear-is-the-standard, RBF*, Standard, utilization, whole, Σᶠ, _*ᶠ_, _+ᶠ_, _-ᶠ_, _÷_, _≥ᶠ_}
-use Rattle.fit.specs.Tests.{Askable, Linear-yes, line, share}
-use Rattle.std.proofs.shelf.Signed.{ints}
+use Rattle.fit.specs.Fractions.{Fraction, Linear-is-the-standard, RBF*, utilization, whole, Σᶠ, _*ᶠ_, _+ᶠ_, _-ᶠ_, _≥ᶠ_}
+use Rattle.fit.specs.Tests.{line, share}
 use Rattle.std.proofs.shelf.Sums.{sumBy-cons}
-use Rattle.std.proofs.shelf.Tests.{cases-lt}
 use Rattle.std.specs.shelf.Lists.{All, sumBy}
-use Rattle.tasks.specs.Task.{Bounded, Grid-range, OnGrid, widest-grid}
+use Rattle.tasks.specs.Task.{Bounded, OnGrid, widest-grid}
 use Rattle.tasks.specs.declared.record.TaskRecord.{TaskRecord}
 
 -- x is worth k over G: it is a proper fraction n/b, and n/b = k/G.

@@ -1,5 +1,4 @@
 // What every test looks at first: the length of the row, and the bounds of each task.
-ghost use mathlib.Core.List.{List};
 ghost use Rattle.fit.specs.Tests.{Askable};
 ghost use Rattle.std.specs.Orderings.{Decides};
 ghost use Rattle.std.specs.shelf.Lists.{All};

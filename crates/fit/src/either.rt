@@ -1,5 +1,4 @@
 // A test over two others.
-ghost use mathlib.Core.List.{List};
 ghost use Rattle.fit.specs.Tests.{Either-yes};
 ghost use Rattle.tasks.specs.declared.record.TaskRecord.{TaskRecord};
 use crate::question::FitTest;

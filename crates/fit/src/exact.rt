@@ -3,7 +3,7 @@ ghost use Prim.Native.Nat.{ℕ, _+_, _*_, _^_, _≤_};
 ghost use mathlib.Core.Path.{_≡_};
 ghost use Rattle.fit.specs.Tests.{Askable, Enough-time, Exact-yes, requests, rounded-up};
 ghost use Rattle.std.specs.Orderings.{Decides};
-ghost use Rattle.std.specs.shelf.Lists.{All, sumBy};
+ghost use Rattle.std.specs.shelf.Lists.{sumBy};
 ghost use Rattle.tasks.specs.Task.{Bounded, widest-grid};
 use crate::askable::askable;
 use crate::question::FitTest;

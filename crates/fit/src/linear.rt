@@ -1,7 +1,6 @@
 // The linear test: the request bounds of the row as straight lines (Fisher, Baruah and Baker, ECRTS 2006).
 ghost use Prim.Native.Nat.{_+_, _*_, _^_, _≤_};
 ghost use lib.ListN.{length};
-ghost use mathlib.Core.List.{List};
 ghost use mathlib.Core.Path.{_≡_};
 ghost use Rattle.fit.specs.Fractions.{Lawful-question, Standard};
 ghost use Rattle.fit.specs.Tests.{Askable, Held, Linear-yes, line, share};

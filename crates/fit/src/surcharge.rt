@@ -1,9 +1,9 @@
 // A test over another one: every work is raised by what a switch between jobs costs.
 ghost use Prim.Native.Nat.{_+_, _≤_};
 ghost use lib.ListN.{length, take};
-ghost use mathlib.Core.List.{List, map};
+ghost use mathlib.Core.List.{map};
 ghost use mathlib.Core.Path.{_≡_};
-ghost use Rattle.fit.specs.Tests.{Askable, Cost-range, Held, Room, Surcharge-yes, raised};
+ghost use Rattle.fit.specs.Tests.{Cost-range, Held, Room, Surcharge-yes, raised};
 ghost use Rattle.std.specs.Orderings.{Decides};
 ghost use Rattle.std.specs.shelf.Lists.{All};
 ghost use Rattle.tasks.specs.Task.{Bounded, widest-grid};

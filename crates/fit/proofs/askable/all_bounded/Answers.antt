@@ -1,3 +1,4 @@
+-- The scan of a row decides whether every task keeps its bounds.
 use Rattle.fit.proofs.Scans.{scan-stops, scan-goes, scan-ends}
 use Rattle.fit.proofs.askable.all_bounded.Needs as need
 use Rattle.fit.specs.Lane.{no-task}

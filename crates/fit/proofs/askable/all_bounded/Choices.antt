@@ -1,3 +1,4 @@
+-- The tasks before this one keep their bounds.
 use lib.ListN.{take}
 use Rattle.std.specs.shelf.Lists.{All}
 use Rattle.tasks.specs.Task.{Bounded, widest-grid}

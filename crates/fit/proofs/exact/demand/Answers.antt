@@ -1,3 +1,4 @@
+-- The loop adds up what the row asks for.
 use mathlib.Core.Path.{ap}
 use native.Mathlib.Omega.{arith}
 use Prim.Native.Nat.{_+_, _^_}

@@ -1,3 +1,4 @@
+-- What the tasks so far ask for.
 use Prim.Native.Nat.{_^_}
 use Rattle.fit.proofs.Totals.{Total}
 use Rattle.fit.proofs.exact.demand.Given as given

@@ -1,3 +1,4 @@
+-- What is asked for grows with the time, so each step stays at or before every time with room.
 use native.Mathlib.Omega.{arith}
 use Rattle.fit.proofs.Rounding.{no-sooner}
 use Rattle.fit.proofs.exact.enough_time.Needs as need

@@ -1,5 +1,6 @@
-use mathlib.Core.Path.{_≡_, subst, sym}
-use Prim.Native.Nat.{ℕ, _*_, _≤_}
+-- The rounded-up quotient is the least number of gaps that covers the time.
+use mathlib.Core.Path.{subst, sym}
+use Prim.Native.Nat.{_*_, _≤_}
 use Rattle.fit.proofs.Rounding.{covers, least}
 use Rattle.fit.proofs.exact.gaps_over.Needs as need
 

@@ -1,3 +1,4 @@
+-- What a task asks for within a time stays below 2^40.
 use mathlib.Core.Path.{ap}
 use native.Mathlib.Omega.{arith}
 use Prim.Native.Nat.{_*_, _^_, _≤_}

@@ -1,3 +1,4 @@
+-- Linear is the standard.
 use Rattle.fit.proofs.Worths.{linear-is-the-standard}
 use Rattle.fit.proofs.fractions.linear_is_the_standard.Needs as need
 

@@ -1,3 +1,4 @@
+-- The scan of a row decides whether every gap divides the grid.
 use Rattle.fit.proofs.Scans.{scan-stops, scan-goes, scan-ends}
 use Rattle.fit.proofs.linear.all_on_grid.Needs as need
 use Rattle.fit.specs.Lane.{no-task}

@@ -1,3 +1,4 @@
+-- The gaps before this one divide the grid.
 use lib.ListN.{take}
 use Rattle.std.specs.shelf.Lists.{All}
 use Rattle.tasks.specs.Task.{OnGrid}

@@ -1,3 +1,4 @@
+-- The sum of inequality 5 fits.
 use native.Mathlib.Omega.{arith}
 use Prim.Native.Nat.{_^_}
 use Rattle.fit.proofs.linear.in_time.Needs as need

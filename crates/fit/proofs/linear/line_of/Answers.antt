@@ -1,5 +1,6 @@
+-- The line of a task at a time fits, and stays below 2^45.
 use mathlib.Core.Path.{_≡_, ap}
-use Prim.Native.Nat.{_+_, _*_, _≤_}
+use Prim.Native.Nat.{_+_, _*_}
 use native.Mathlib.Omega.{arith}
 use Rattle.fit.proofs.Bounds.{line-bound}
 use Rattle.fit.proofs.linear.line_of.Needs as need

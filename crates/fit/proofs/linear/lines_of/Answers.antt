@@ -1,3 +1,4 @@
+-- The loop adds up the lines of the row.
 use native.Mathlib.Omega.{arith}
 use Prim.Native.Nat.{_^_}
 use Rattle.fit.proofs.Totals.{total-goes, total-ends}

@@ -1,3 +1,4 @@
+-- The lines so far.
 use Prim.Native.Nat.{_^_}
 use Rattle.fit.proofs.Totals.{Total}
 use Rattle.fit.proofs.linear.lines_of.Given as given

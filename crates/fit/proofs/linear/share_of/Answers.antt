@@ -1,3 +1,4 @@
+-- A share is at most the grid.
 use mathlib.Core.Path.{refl}
 use native.Mathlib.Omega.{arith}
 use Rattle.fit.proofs.Bounds.{share-bound}

@@ -1,3 +1,4 @@
+-- The loop adds up the shares of the row.
 use native.Mathlib.Omega.{arith}
 use Rattle.fit.proofs.Totals.{total-goes, total-ends}
 use Rattle.fit.proofs.linear.shares_of.Needs as need

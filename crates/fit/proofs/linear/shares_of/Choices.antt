@@ -1,3 +1,4 @@
+-- The shares so far.
 use Rattle.fit.proofs.Totals.{Total}
 use Rattle.fit.proofs.linear.shares_of.Given as given
 use Rattle.fit.specs.Tests.{share}

@@ -1,3 +1,4 @@
+-- The scan of a row decides whether every task has room for its raised work.
 use Rattle.fit.proofs.Scans.{scan-stops, scan-goes, scan-ends}
 use Rattle.fit.proofs.surcharge.all_have_room.Needs as need
 use Rattle.fit.specs.Lane.{no-task}

@@ -1,3 +1,4 @@
+-- The tasks before this one have room for their raised works.
 use lib.ListN.{take}
 use Rattle.fit.proofs.surcharge.all_have_room.Given as given
 use Rattle.fit.specs.Tests.{Room}

@@ -1,3 +1,4 @@
+-- The loop copies the row with raised works.
 use mathlib.Core.Path.{_∙_}
 use native.Mathlib.Omega.{arith}
 use Rattle.fit.proofs.Copies.{copy-goes, copy-ends}

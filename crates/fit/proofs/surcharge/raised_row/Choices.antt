@@ -1,3 +1,4 @@
+-- The raised tasks so far.
 use mathlib.Core.List.{map}
 use mathlib.Core.Path.{_≡_}
 use lib.ListN.{length, take}

@@ -1,3 +1,4 @@
+-- The law of the exact test, from the exact rule.
 use Rattle.fit.proofs.Laws.{exact-safe}
 use Rattle.fit.proofs.exact.ExactFit.the-impl.Needs as need
 

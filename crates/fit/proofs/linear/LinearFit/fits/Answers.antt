@@ -1,3 +1,4 @@
+-- The linear test answers as the standard does.
 use Rattle.fit.proofs.Worths.{linear-is-the-standard}
 use Rattle.fit.proofs.linear.LinearFit.fits.Needs as need
 use Rattle.std.proofs.shelf.Ways.{decides-like}

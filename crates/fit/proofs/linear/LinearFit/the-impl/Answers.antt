@@ -1,3 +1,4 @@
+-- The law of the linear test, from the share rule.
 use Rattle.fit.proofs.Laws.{linear-safe}
 use Rattle.fit.proofs.linear.LinearFit.the-impl.Needs as need
 

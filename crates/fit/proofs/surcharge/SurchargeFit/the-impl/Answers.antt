@@ -1,3 +1,4 @@
+-- The law of a surcharge, from the law of the test below.
 use mathlib.Core.List.{_∷_, [], _++_, map}
 use mathlib.Core.Path.{subst}
 use Prim.Native.Nat.{ℕ}
@@ -9,7 +10,6 @@ use Rattle.fit.specs.Lane.{Safe-task}
 use Rattle.fit.specs.Tests.{raised}
 use Rattle.std.proofs.shelf.Lists.{length-map}
 
--- The law of the test below is about the raised works, and smaller works are no less safe.
 pub safe-law : need.safe-law
 safe-law g test row asked h =
     let dear = map (raised (test .cost)) row ++ (raised (test .cost) asked ∷ []) in
