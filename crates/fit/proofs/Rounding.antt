@@ -6,7 +6,7 @@ use native.Mathlib.Nat.{add-mul, one-mul, mul-le-mul-right}
 use native.Mathlib.Omega.{arith}
 use Prim.Native.Nat.{ℕ, min, _+_, _*_, _/_, _%_, _<_, _≤_}
 use Rattle.fit.proofs.Totals.{sumBy-grows}
-use Rattle.fit.specs.Tests.{Askable, requests, rounded-up}
+use Rattle.fit.specs.Tests.{Askable, Rounding-up-covers, requests, rounded-up}
 use Rattle.std.proofs.shelf.Bits.{div-add-mod', mod-below, mul-le}
 use Rattle.std.proofs.shelf.Tests.{cases-lt}
 use Rattle.std.proofs.shelf.Elements.{all-weaker}
@@ -38,6 +38,9 @@ module _ (time gap : ℕ) (some : 1 ≤ gap) where
 
       level : time / gap ≡ k → rounded-up time gap ≤ k
       level e = omega (arith, ap (λ n. n * gap) e, div-add-mod' time gap)
+
+pub rounding-up-covers : Rounding-up-covers
+rounding-up-covers time gap some = record { covers = covers time gap some; least = least time gap some }
 
 pub rounded-up-grows : (a b gap : ℕ) → 1 ≤ gap → a ≤ b → rounded-up a gap ≤ rounded-up b gap
 rounded-up-grows a b gap some h = least a gap some (rounded-up b gap) (omega (arith, covers b gap some))

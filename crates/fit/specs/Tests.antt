@@ -47,6 +47,15 @@ pub record Linear-yes (grid : ℕ) (row : List TaskRecord) (asked : TaskRecord) 
 abbrev pub rounded-up : ℕ → ℕ → ℕ
 rounded-up time gap = time / gap + min 1 (time % gap)
 
+-- k is the least whole number with time ≤ k * gap.
+pub record Least-cover (time gap k : ℕ) : Type 0 where
+  pub covers : time ≤ k * gap
+  pub least : (fewer : ℕ) → time ≤ fewer * gap → k ≤ fewer
+
+-- That is what rounding up gives.
+abbrev pub Rounding-up-covers : Type 0
+Rounding-up-covers = (time gap : ℕ) → 1 ≤ gap → Least-cover time gap (rounded-up time gap)
+
 -- The work ⌈time/p⌉ * e that a task asks for within a time, at most
 -- (Fisher, Baruah and Baker, ECRTS 2006, equation 2).
 abbrev pub requests : ℕ → TaskRecord → ℕ

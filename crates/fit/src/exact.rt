@@ -1,7 +1,7 @@
 // The exact test: the response time of the asked task (Audsley, Burns, Richardson and Wellings, 1991).
-ghost use Prim.Native.Nat.{ℕ, _+_, _*_, _^_, _≤_};
+ghost use Prim.Native.Nat.{_+_, _^_, _≤_};
 ghost use mathlib.Core.Path.{_≡_};
-ghost use Rattle.fit.specs.Tests.{Askable, Enough-time, Exact-yes, requests, rounded-up};
+ghost use Rattle.fit.specs.Tests.{Askable, Enough-time, Exact-yes, Least-cover, Rounding-up-covers, requests, rounded-up};
 ghost use Rattle.std.specs.Orderings.{Decides};
 ghost use Rattle.std.specs.shelf.Lists.{sumBy};
 ghost use Rattle.tasks.specs.Task.{Bounded, widest-grid};
@@ -13,12 +13,16 @@ use tasks::record::TaskRecord;
 #[derive(Clone, Copy)]
 pub struct Exact;
 
-// How many gaps it takes to cover a time: the least number that does.
+// ⌈t/p⌉ is the least whole k with t ≤ k * p.
+pub fn rounding_up_covers()
+    ensures { λ _. ⌜ Rounding-up-covers ⌝ }
+{}
+
+// How many gaps it takes to cover a time.
 fn gaps_over(time: u64, gap: u32) -> u64
     requires { ⌜ 1 ≤ gap ⌝ }
     ensures value { λ r. ⌜ r ≡ rounded-up time gap ⌝ }
-    ensures covers { λ r. ⌜ time ≤ r * gap ⌝ }
-    ensures least { λ r. ⌜ ((k : ℕ) → time ≤ k * gap → r ≤ k) ⌝ }
+    ensures cover { λ r. ⌜ Least-cover time gap r ⌝ }
 {
     time.div_ceil(gap as u64)
 }
