@@ -1,0 +1,10 @@
+pub mod Account
+pub mod Alive
+pub mod Exact
+pub mod Prefix
+pub mod Safe
+pub mod Service
+pub mod Shares
+pub mod Split
+pub mod Window
+pub mod Works
