@@ -1,0 +1,5 @@
+pub mod Counts
+pub mod Drains
+pub mod InOrder
+pub mod Lead
+pub mod Places
