@@ -1,0 +1,3 @@
+// Placing tasks on lanes, and checking any placing.
+pub mod fault;
+pub mod place;

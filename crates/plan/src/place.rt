@@ -1,0 +1,1 @@
+// Placing a list's tasks by first fit, and checking a plan, whoever made it.
