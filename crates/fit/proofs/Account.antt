@@ -65,7 +65,7 @@ account-stays h =
     record { within = h .within; unfinished = h .unfinished; spaced = h .spaced; next = h .next; before = omega arith }
 
 -- The job that is released at this clock.
-abbrev new-job : ℕ → Job
+abbrev pub new-job : ℕ → Job
 new-job clock = record { release = clock; served = 0 }
 
 begun-push : (jobs : List Job) (clock : ℕ) → begun (jobs ++ (new-job clock ∷ [])) ≡ begun jobs

@@ -1,5 +1,6 @@
 pub mod Account
 pub mod Alive
+pub mod Apart
 pub mod Exact
 pub mod Prefix
 pub mod Safe

@@ -7,7 +7,7 @@ use Rattle.std.specs.Vec.{Each}
 use Rattle.std.specs.declared.option.Option.the-variants.{Some}
 use Rattle.std.specs.shelf.Lists.{All, sumBy}
 use Rattle.tasks.specs.declared.record.TaskRecord.{TaskRecord}
-use Rattle.fit.specs.Lane.{Job, Lane, Reached, Waits-past, LateJob, Safe-task, Safe-lane, no-task}
+use Rattle.fit.specs.Lane.{Job, Lane, unreleased, May-release, Reached, Waits-past, LateJob, Safe-task, Safe-lane, no-task}
 
 -- The lane of a row's tasks alone: the same clock, and their standings.
 abbrev pub alone : List TaskRecord → Lane → Lane
@@ -92,6 +92,18 @@ Accepted-in-turn yes-to row = (k : ℕ) → k < length row → yes-to (take k ro
 -- A lane whose every task was accepted over those before it has no late job in any run.
 abbrev pub Accepted-lanes-are-safe : (List TaskRecord → TaskRecord → Type 0) → Type 0
 Accepted-lanes-are-safe yes-to = (row : List TaskRecord) → Accepted-in-turn yes-to row → Safe-lane row
+
+-- A safe task never has more jobs than places, where that many gaps cover its limit:
+-- whenever it may release a job, fewer wait.
+abbrev pub Room-for-a-release : Type 0
+Room-for-a-release =
+    (row : List TaskRecord) (i places : ℕ) (l : Lane) →
+    Safe-task row i →
+    1 ≤ places →
+    getD row i no-task .limit ≤ places * getD row i no-task .gap →
+    Reached row l →
+    May-release (l .clock) (getD row i no-task) (getD (l .standings) i unreleased) →
+    length (getD (l .standings) i unreleased .waiting) < places
 
 -- A task with this work, limit and gap.
 abbrev pub task : ℕ → ℕ → ℕ → TaskRecord

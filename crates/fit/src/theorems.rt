@@ -1,7 +1,7 @@
 // What is proved of every run of a plain lane: each function's contract is one theorem.
 ghost use Rattle.fit.specs.Theorems.{Lower-tasks-never-disturb, Waits-alone, Safe-in-turn, Accepted-lanes-are-safe};
 ghost use Rattle.fit.specs.Theorems.{Larger-works-wait-no-less, Safe-with-larger-works, Shares-bound-waiting, Counts-bound-waiting};
-ghost use Rattle.fit.specs.Theorems.{Overfull-lane-is-late, A-job-may-finish-early};
+ghost use Rattle.fit.specs.Theorems.{Room-for-a-release, Overfull-lane-is-late, A-job-may-finish-early};
 use crate::question::FitTest;
 
 // Lower tasks never disturb higher ones.
@@ -34,6 +34,11 @@ pub fn shares_bound_waiting()
 // The exact rule, over any count of jobs that covers the time.
 pub fn counts_bound_waiting()
     ensures { λ _. ⌜ Counts-bound-waiting ⌝ }
+{}
+
+// A safe task never has more jobs waiting than gaps in its limit.
+pub fn safe_task_has_room_for_each_release()
+    ensures { λ _. ⌜ Room-for-a-release ⌝ }
 {}
 
 // The model has late jobs: some run of an overfull lane has one.
