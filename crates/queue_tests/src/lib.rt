@@ -36,5 +36,6 @@ pub impl Ordered for Ticket as TicketOrdered {
     }
 }
 
+pub mod ranking;
 #[cfg(test)]
 mod tests;

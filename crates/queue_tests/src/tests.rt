@@ -1,4 +1,8 @@
 use super::*;
+use crate::ranking::TooMany;
+use crate::ranking::TooManyDebug;
+use crate::ranking::TooManyPartialEq;
+use crate::ranking::sort;
 use queue::FullDebug;
 use queue::first;
 use queue::put;
@@ -88,4 +92,13 @@ fn takes_nothing_from_an_empty_queue() -> Result<(), Fail> {
     let mut no_places: [Option<Rank>; 0] = [];
     check_eq(take(&mut no_places), None)?;
     check(put(&mut no_places, rank(1, 0)).is_err())
+}
+
+#[test]
+fn sorts_by_way_of_the_queue() -> Result<(), Fail> {
+    let mut ranks = [rank(12, 2), rank(6, 3), rank(6, 0), rank(4, 1)];
+    sort(&mut ranks)?;
+    check_eq(ranks, [rank(4, 1), rank(6, 0), rank(6, 3), rank(12, 2)])?;
+    let mut nine = [rank(1, 0); 9];
+    check_eq(sort(&mut nine), Err(TooMany))
 }
