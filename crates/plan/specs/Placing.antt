@@ -15,7 +15,7 @@ use Rattle.std.specs.declared.result.Result.{Result}
 use Rattle.std.specs.declared.result.Result.the-variants.{Ok, Err}
 use Rattle.std.specs.shelf.Lists.{kept-by}
 use Rattle.tasks.specs.List.{blank}
-use Rattle.tasks.specs.Order.{goes-before}
+use Rattle.tasks.specs.Order.{goes-before, rank-of}
 use Rattle.tasks.specs.declared.order.Rank.{Rank}
 use Rattle.tasks.specs.declared.record.TaskRecord.{TaskRecord}
 
@@ -121,7 +121,7 @@ pub record Order-of-tasks (tasks : List TaskRecord) : Type 0 where
   pub all : length (order tasks) ≡ length tasks
   pub every : (number : ℕ) → number < length tasks → (k : ℕ) × (k < length tasks) × (turn tasks k ≡ number)
   pub rising : (j k : ℕ) → j < k → k < length tasks
-      → goes-before (record { limit = record-of tasks (turn tasks j) .limit; number = turn tasks j }) (record { limit = record-of tasks (turn tasks k) .limit; number = turn tasks k }) ≡ true
+      → goes-before (rank-of tasks (turn tasks j)) (rank-of tasks (turn tasks k)) ≡ true
 
 -- The answers of place and check are settled, whatever the test: at most one of them holds.
 pub record Settled (yes-to : List TaskRecord → TaskRecord → Type 0) (lanes : ℕ) (tasks : List TaskRecord) : Type 0 where
