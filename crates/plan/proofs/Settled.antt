@@ -12,7 +12,7 @@ use Rattle.plan.specs.Placing.{Cannot-place, Fails, First-fit, Fits, Passes, P
 use Rattle.plan.specs.declared.fault.PlanFault.{PlanFault}
 use Rattle.plan.specs.declared.fault.PlanFault.the-variants.{List as List-fault, PlanLength, NoLane, NoFit}
 use Rattle.plan.proofs.Order.{turn-of}
-use Rattle.plan.proofs.Rows.{Agree, rows-agree}
+use Rattle.plan.proofs.Growing.{Agree, rows-agree}
 
 module _ (yes-to : List TaskRecord → TaskRecord → Type 0) (lanes : ℕ) (tasks : List TaskRecord) where
   -- The tasks before the k-th turn are placed by first fit.

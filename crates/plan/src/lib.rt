@@ -1,4 +1,6 @@
 // Placing tasks on lanes, and checking any placing.
 pub mod fault;
 pub mod place;
+mod rows;
 pub mod theorems;
+mod turns;

@@ -11,14 +11,20 @@ use lib.ListN.{length, getD, set, take}
 use Rattle.std.specs.shelf.Lists.{All, kept-by}
 use Rattle.std.proofs.shelf.Elements.{kept-by-more}
 use Rattle.std.proofs.shelf.Filters.{length-kept-by-more}
-use Rattle.std.proofs.shelf.Lists.{append-nil, getD-append-left, getD-push, getD-set-other, length-push, length-map, map-append, take-all, take-append-le, take-at}
+use Rattle.std.proofs.shelf.Lists.{append-nil, getD-append-left, getD-map, getD-push, getD-set-other, length-push, length-map, map-append, take-all, take-append-le, take-at}
 use Rattle.std.proofs.shelf.Tests.{cases-eq, cases-lt, eq-eqb, ne-eqb}
 use Rattle.fit.specs.Lane.{Safe-task, no-task}
 use Rattle.fit.specs.Theorems.{Accepted-in-turn}
 use Rattle.fit.proofs.Prefix.{accepted-lanes-are-safe}
+use Rattle.tasks.specs.List.{held}
 use Rattle.tasks.specs.declared.record.TaskRecord.{TaskRecord}
+use Rattle.tasks.specs.declared.table.Table.{Table}
 use Rattle.plan.specs.Placing.{Fits, First-fit, Lanes-are-safe, On-lanes, Passes, Places, Takes, earlier, lane-of, lane-row, order, record-of, row-among, turn}
+use Rattle.plan.specs.Steps.{row-on}
 use Rattle.plan.proofs.Order.{length-order, turn-of, turns-apart}
+
+pub row-read : (rows : List Table) (lane : ℕ) (d : Table) → lane < length rows → row-on rows lane ≡ held (getD rows lane d)
+row-read rows lane d h = getD-map held rows lane d [] h
 
 module _ (tasks : List TaskRecord) where
   -- The row of a lane before the k-th turn.
