@@ -8,6 +8,9 @@ use native.Mathlib.Numerals.{add-one}
 use native.Mathlib.Omega.{arith}
 use lib.Dec.{eqb}
 use lib.ListN.{length, getD, set, take}
+use Rattle.std.specs.Results.{Cases}
+use Rattle.std.specs.declared.result.Result.{Result}
+use Rattle.std.specs.declared.result.Result.the-variants.{Ok, Err}
 use Rattle.std.specs.shelf.Lists.{All, kept-by}
 use Rattle.std.proofs.shelf.Elements.{kept-by-more}
 use Rattle.std.proofs.shelf.Filters.{length-kept-by-more}
@@ -19,8 +22,9 @@ use Rattle.fit.proofs.Prefix.{accepted-lanes-are-safe}
 use Rattle.tasks.specs.List.{held}
 use Rattle.tasks.specs.declared.record.TaskRecord.{TaskRecord}
 use Rattle.tasks.specs.declared.table.Table.{Table}
-use Rattle.plan.specs.Placing.{Fits, First-fit, Lanes-are-safe, On-lanes, Passes, Places, Takes, earlier, lane-of, lane-row, order, record-of, row-among, turn}
+use Rattle.plan.specs.Placing.{Checked, Fails, Fits, First-fit, Lanes-are-safe, On-lanes, Passes, Places, Takes, earlier, lane-of, lane-row, order, record-of, row-among, turn}
 use Rattle.plan.specs.Steps.{row-on}
+use Rattle.plan.specs.declared.fault.PlanFault.{PlanFault}
 use Rattle.plan.proofs.Order.{length-order, turn-of, turns-apart}
 
 pub row-read : (rows : List Table) (lane : ℕ) (d : Table) → lane < length rows → row-on rows lane ≡ held (getD rows lane d)
@@ -144,3 +148,14 @@ module _ (yes-to : List TaskRecord → TaskRecord → Type 0) (lanes : ℕ) (tas
             subst (λ (n : ℕ). lane-of plan n < lanes) (at .2) (p .first-fit (at .0) (at .1) .on-lane);
         fits = λ k h. p .first-fit k h .fits;
       }
+
+  -- What the check answers once length and lanes are seen to.
+  pub checked-in-turn :
+      ((row : List TaskRecord) (asked : TaskRecord) → yes-to row asked → Safe-task (row ++ (asked ∷ [])) (length row))
+      → length plan ≡ length tasks → On-lanes yes-to lanes tasks plan → (r : Result (Unit {0}) PlanFault)
+      → Cases r (λ _. (k : ℕ) → k < length tasks → Fits yes-to lanes tasks plan k) (λ fault. Fails yes-to lanes tasks plan fault)
+      → Checked yes-to lanes tasks plan r
+  checked-in-turn law long on (Ok _) fits =
+      let passes : Passes yes-to lanes tasks plan = record { long = long; on-lanes = on; fits = fits } in
+      (passes, lanes-are-safe law passes)
+  checked-in-turn law long on (Err fault) fails = fails

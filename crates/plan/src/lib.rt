@@ -1,4 +1,5 @@
 // Placing tasks on lanes, and checking any placing.
+pub mod check;
 pub mod fault;
 pub mod place;
 mod rows;
