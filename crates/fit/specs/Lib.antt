@@ -1,2 +1,4 @@
+pub mod Fractions
 pub mod Lane
+pub mod Tests
 pub mod Theorems
