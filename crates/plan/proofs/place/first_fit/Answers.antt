@@ -54,7 +54,7 @@ returns-in-rest-first g c =
     let none : (lane : ℕ) → lane < list .lanes → lane < c .search .lane =
     elim (c .if-lane-lanes .came) [
       | then-lane-lanes w ↦ λ lane l. omega (arith, w .if-lane-lanes .taken, c .lanes-lanes .ensures)
-      | else-lane-lanes·then-takes w ↦ absurd (found-or-not (w .first-is) (c .in-rest-first .is))
+      | else-lane-lanes·then-takes w ↦ absurd (found-or-not {o = c .if-lane-lanes .first} (w .first-is) (c .in-rest-first .is))
     ] in (
       k,
       c .loop-number .plan,
@@ -83,9 +83,9 @@ loop-number-again g c =
     let took = c .in-Some .ensures tt .turn tasks k (turned .awaiting) in
     let found : (lane ≡ c .search .lane) × (lane < list .lanes) × yes-to (row-on rows lane) (record-of records number) =
     elim (c .if-lane-lanes .came) [
-      | then-lane-lanes w ↦ absurd (found-or-not (c .in-Some-first .is) (w .first-is))
+      | then-lane-lanes w ↦ absurd (found-or-not {o = c .if-lane-lanes .first} (c .in-Some-first .is) (w .first-is))
       | else-lane-lanes·then-takes w ↦
-          let same : lane ≡ c .search .lane = one-found (c .in-Some-first .is) (w .first-is) in (
+          let same : lane ≡ c .search .lane = one-found {o = c .if-lane-lanes .first} (c .in-Some-first .is) (w .first-is) in (
             same,
             omega (arith, same, w .if-lane-lanes .left, c .lanes-lanes .ensures),
             subst (λ (l : ℕ). yes-to (row-on rows l) (record-of records number)) (sym same) (w .takes .ensures .0 (w .if-takes .taken)),
@@ -124,9 +124,9 @@ returns-in-Break-put g c =
     let took = c .in-Some .ensures tt .turn tasks k (turned .awaiting) in
     let four : lane < 4 =
     elim (c .if-lane-lanes .came) [
-      | then-lane-lanes w ↦ absurd (found-or-not (c .in-Some-first .is) (w .first-is))
+      | then-lane-lanes w ↦ absurd (found-or-not {o = c .if-lane-lanes .first} (c .in-Some-first .is) (w .first-is))
       | else-lane-lanes·then-takes w ↦
-          let same : lane ≡ c .search .lane = one-found (c .in-Some-first .is) (w .first-is) in
+          let same : lane ≡ c .search .lane = one-found {o = c .if-lane-lanes .first} (c .in-Some-first .is) (w .first-is) in
           omega (arith, w .if-lane-lanes .left, c .lanes-lanes .ensures, list .«lane_range»)
     ] in
     absurd
