@@ -19,26 +19,28 @@ use Rattle.tasks.specs.declared.record.TaskRecord.{TaskRecord}
 module _ (yes-to : List TaskRecord → TaskRecord → Type 0) (bytes : List ℕ) (list : TaskList) (heading text begun done : List ℕ) (headed : begun ≡ text ++ heading) where
   -- every task has a lane
   pub block-placed : (plan : List ℕ) → Places yes-to (list .lanes) (tasks-of list) plan → Lines-added bytes plan (length plan) begun done
-    → Block-added yes-to bytes list heading text done
+      → Block-added yes-to bytes list heading text done
   block-placed plan places lines entries read =
       let all : length plan ≡ length entries = places .long ∙ ap length (read .tasks-are) ∙ length-map entries numbers-said in
-      let here = subst (λ ts. Places yes-to (list .lanes) ts plan) (read .tasks-are) places in
-      (heading ++ task-lines plan entries (length entries),
-       placed plan here,
-       lines (list .grid) (list .lanes) entries (read .spells) all
-       ∙ ap (λ n. begun ++ task-lines plan entries n) all
-       ∙ ap (λ t. t ++ task-lines plan entries (length entries)) headed
-       ∙ append-assoc text heading (task-lines plan entries (length entries)))
+      let here = subst (λ ts. Places yes-to (list .lanes) ts plan) (read .tasks-are) places in (
+        heading ++ task-lines plan entries (length entries),
+        placed plan here,
+        lines (list .grid) (list .lanes) entries (read .spells) all
+            ∙ ap (λ n. begun ++ task-lines plan entries n) all
+            ∙ ap (λ t. t ++ task-lines plan entries (length entries)) headed
+            ∙ append-assoc text heading (task-lines plan entries (length entries)),
+      )
 
   -- some task has none
   pub block-unplaced : (plan : List ℕ) (fault : PlanFault) → length plan ≡ length (tasks-of list)
-    → Cannot-place yes-to (list .lanes) (tasks-of list) plan fault → done ≡ begun ++ refusal-line (number fault) (place fault)
-    → Block-added yes-to bytes list heading text done
+      → Cannot-place yes-to (list .lanes) (tasks-of list) plan fault → done ≡ begun ++ refusal-line (number fault) (place fault)
+      → Block-added yes-to bytes list heading text done
   block-unplaced plan (NoFit task) long cannot refused entries read =
-      let here = subst (λ ts. Cannot-place yes-to (list .lanes) ts plan (NoFit task)) (read .tasks-are) cannot in
-      (heading ++ refusal-line 12 task,
-       unplaced plan task here,
-       refused ∙ ap (λ t. t ++ refusal-line 12 task) headed ∙ append-assoc text heading (refusal-line 12 task))
+      let here = subst (λ ts. Cannot-place yes-to (list .lanes) ts plan (NoFit task)) (read .tasks-are) cannot in (
+        heading ++ refusal-line 12 task,
+        unplaced plan task here,
+        refused ∙ ap (λ t. t ++ refusal-line 12 task) headed ∙ append-assoc text heading (refusal-line 12 task),
+      )
   block-unplaced plan (PlanLength found) long cannot refused entries read = absurd (cannot .0 long)
   block-unplaced plan (NoLane task) long cannot refused entries read = elim cannot [ ]
   block-unplaced plan (List-fault fault) long cannot refused entries read = elim cannot [ ]

@@ -41,16 +41,16 @@ task-lines plan entries (suc count) =
 -- A block: its heading, and then where first fit under a test places each task, or the first task that no lane takes.
 pub data Block (yes-to : List TaskRecord → TaskRecord → Type 0) (lanes : ℕ) (entries : List Entry) (heading : List ℕ) : List ℕ → Type 0 where
   placed : (plan : List ℕ) → Places yes-to lanes (tasks-said entries) plan
-    → Block yes-to lanes entries heading (heading ++ task-lines plan entries (length entries))
+      → Block yes-to lanes entries heading (heading ++ task-lines plan entries (length entries))
   unplaced : (plan : List ℕ) (task : ℕ) → Cannot-place yes-to lanes (tasks-said entries) plan (NoFit task)
-    → Block yes-to lanes entries heading (heading ++ refusal-line 12 task)
+      → Block yes-to lanes entries heading (heading ++ refusal-line 12 task)
 
 -- The text for these bytes: the summary of the list that they spell, and a block by the linear test and one by the
 -- linear test or the exact one; or the fault for which they spell no list.
 pub data Listing (bytes : List ℕ) : List ℕ → Type 0 where
   accepted : {grid lanes : ℕ} {entries : List Entry} {linear either : List ℕ}
-    → Spells bytes grid lanes entries
-    → Block (Linear-yes grid) lanes entries (codes "linear\n") linear
-    → Block (Either-yes (Linear-yes grid) Exact-yes) lanes entries (codes "either\n") either
-    → Listing bytes (summary-line (length entries) lanes grid ++ (linear ++ either))
+      → Spells bytes grid lanes entries
+      → Block (Linear-yes grid) lanes entries (codes "linear\n") linear
+      → Block (Either-yes (Linear-yes grid) Exact-yes) lanes entries (codes "either\n") either
+      → Listing bytes (summary-line (length entries) lanes grid ++ (linear ++ either))
   refused : {fault : ListFault} → Unreadable bytes fault → Listing bytes (refusal-line (number fault) (place fault))

@@ -66,3 +66,40 @@ fn block<F: FitTest>(
     lines(text, heap, plan, sheet)?;
     Ok(())
 }
+
+// Adds what is printed for a list that was read.
+fn read_text(
+    text: &mut Vec<u8>,
+    heap: Global,
+    list: &TaskList,
+    sheet: &[u8],
+) -> Result<(), AllocError>
+    ensures { λ r. ⌜ made r (λ _. Read-text-added (now (sheet .entry)) (now (list .entry)) (vec-items (now (text .entry))) (vec-items (now (text .exit)))) ⌝ }
+{
+    summary(text, heap, list.len(), list.lanes(), list.grid())?;
+    let Ok(linear) = Linear::new(list.grid()) else {
+        // A list's grid is in a test's range.
+        unreachable()
+    };
+    block(text, heap, b"linear\n", &linear, list, sheet)?;
+    let either = Either {
+        first: linear,
+        second: Exact,
+    };
+    block(text, heap, b"either\n", &either, list, sheet)?;
+    Ok(())
+}
+
+// What is printed for these bytes.
+pub fn listing(heap: Global, sheet: &[u8]) -> Result<Vec<u8>, AllocError>
+    ensures { λ r. ⌜ made r (λ text. Listing (now (sheet .entry)) (vec-items text)) ⌝ }
+{
+    let mut text = Vec::new(heap);
+    let mut list = TaskList::new();
+    if let Err(fault) = list.read(sheet) {
+        refusal(&mut text, heap, fault.number(), fault.place())?;
+        return Ok(text);
+    }
+    read_text(&mut text, heap, &list, sheet)?;
+    Ok(text)
+}

@@ -6,8 +6,10 @@ ghost use Rattle.std.specs.Vec.{made};
 mod listing;
 mod text;
 
+use listing::listing;
 use std::io;
 use std::io::Read;
+use std::io::Write;
 
 // The most bytes of input that are read as a sheet.
 const MOST_BYTES: usize = 4096;
@@ -30,6 +32,7 @@ fn fill(input: &mut impl Read, buffer: &mut [u8]) -> io::Result<usize>
 fn main(rt: LibcRuntime) -> io::Result<()> {
     let mut buffer = [0u8; MOST_BYTES];
     let mut input = rt.stdin();
-    let _filled = fill(&mut input, &mut buffer)?;
-    Ok(())
+    let filled = fill(&mut input, &mut buffer)?;
+    let text = listing(rt.alloc(), &buffer[0..filled])?;
+    rt.stdout().write_all(&text)
 }

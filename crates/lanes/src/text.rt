@@ -10,7 +10,13 @@ use std::alloc::AllocError;
 use std::alloc::Global;
 
 // Adds the line for a list that was read.
-pub fn summary(text: &mut Vec<u8>, heap: Global, tasks: usize, lanes: u8, grid: u32) -> Result<(), AllocError>
+pub fn summary(
+    text: &mut Vec<u8>,
+    heap: Global,
+    tasks: usize,
+    lanes: u8,
+    grid: u32,
+) -> Result<(), AllocError>
     ensures { λ r. ⌜ made r (λ _. vec-items (now (text .exit)) ≡ vec-items (now (text .entry)) ++ summary-line tasks lanes grid) ⌝ }
 {
     let line = format!(heap, "tasks {tasks} lanes {lanes} grid {grid}\n")?;
@@ -18,7 +24,12 @@ pub fn summary(text: &mut Vec<u8>, heap: Global, tasks: usize, lanes: u8, grid: 
 }
 
 // Adds the line for a refusal.
-pub fn refusal(text: &mut Vec<u8>, heap: Global, number: u32, place: usize) -> Result<(), AllocError>
+pub fn refusal(
+    text: &mut Vec<u8>,
+    heap: Global,
+    number: u32,
+    place: usize,
+) -> Result<(), AllocError>
     ensures { λ r. ⌜ made r (λ _. vec-items (now (text .exit)) ≡ vec-items (now (text .entry)) ++ refusal-line number place) ⌝ }
 {
     let line = format!(heap, "refused {number} {place}\n")?;
@@ -38,7 +49,13 @@ fn spaced_name(text: &mut Vec<u8>, name: &[u8]) -> Result<(), AllocError>
 }
 
 // Adds the line for a task that was placed.
-pub fn placed_task(text: &mut Vec<u8>, heap: Global, task: usize, lane: u8, name: &[u8]) -> Result<(), AllocError>
+pub fn placed_task(
+    text: &mut Vec<u8>,
+    heap: Global,
+    task: usize,
+    lane: u8,
+    name: &[u8],
+) -> Result<(), AllocError>
     ensures { λ r. ⌜ made r (λ _. vec-items (now (text .exit)) ≡ vec-items (now (text .entry)) ++ task-line task lane (now (name .entry))) ⌝ }
 {
     let front = format!(heap, "{task} {lane}")?;

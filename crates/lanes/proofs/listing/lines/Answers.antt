@@ -9,8 +9,9 @@ use Rattle.std.specs.Of.Vec.{vec-items}
 use Rattle.tasks.specs.Reading.{no-entry}
 
 pub loop-task-again : need.loop-task-again
-loop-task-again c =
-    (omega arith, λ grid lanes entries spells long.
+loop-task-again c = (
+  omega arith,
+  λ grid lanes entries spells long.
       let k = c .loop-task .task in
       let plan = c .args .plan .now in
       let inside : k < length entries = omega arith in
@@ -21,7 +22,8 @@ loop-task-again c =
       ∙ ap (λ name. vec-items (c .loop-task .text) ++ line name) (c .name-bytes .ensures grid lanes entries spells inside)
       ∙ ap (λ text. text ++ line (getD entries k no-entry .name)) (c .loop-task .inv .1 grid lanes entries spells long)
       ∙ append-assoc (vec-items (c .args .text .now)) grown (line (getD entries k no-entry .name))
-      ∙ ap (λ n. vec-items (c .args .text .now) ++ task-lines plan entries n) next)
+      ∙ ap (λ n. vec-items (c .args .text .now) ++ task-lines plan entries n) next,
+)
 
 pub returns : need.returns
 returns c = λ grid lanes entries spells long.

@@ -13,6 +13,6 @@ returns c =
     let name = c .args .name .now in
     c .in-Continue-extend-from-slice-2 .ensures tt .items
     ∙ ap (λ v. v ++ codes "\n") (c .in-Continue-spaced-name .ensures tt
-      ∙ ap (λ v. v ++ spaced name) (c .in-Continue-extend-from-slice .ensures tt .items
-        ∙ ap (λ f. text ++ f) (c .as-bytes .ensures .value ∙ c .in-Continue-front .ensures tt .made)))
+    ∙ ap (λ v. v ++ spaced name) (c .in-Continue-extend-from-slice .ensures tt .items
+    ∙ ap (λ f. text ++ f) (c .as-bytes .ensures .value ∙ c .in-Continue-front .ensures tt .made)))
     ∙ four-parts text (decimal (c .args .task)) (codes " ") (decimal (c .args .lane)) (spaced name) (codes "\n")
