@@ -1,6 +1,4 @@
 // Placing a list's tasks by first fit.
-ghost use mathlib.Core.Path.{_≡_};
-ghost use lib.ListN.{length, take};
 ghost use Rattle.plan.specs.Placing.{Placed};
 ghost use Rattle.plan.specs.Steps.{First-fitted};
 ghost use Rattle.tasks.specs.Filling.{tasks-of};
@@ -38,12 +36,12 @@ fn first_fit<F: FitTest>(list: &TaskList, test: &F) -> Result<[u8; 32], PlanFaul
     while let Some(number) = next(&mut waiting) {
         let task = records[number];
         let mut lane = 0;
-        let first = 'search: loop {
+        let first = 'seek: loop {
             if lane >= lanes {
-                break 'search None;
+                break 'seek None;
             }
             if rows.takes(lane, test, task) {
-                break 'search Some(lane);
+                break 'seek Some(lane);
             }
             lane += 1;
         };
