@@ -1,17 +1,16 @@
 -- First fit, one task after the other.
-use mathlib.Core.Path.{_≡_, refl, sym, ap, subst, _∙_}
+use mathlib.Core.Path.{_≡_, sym, ap, subst, _∙_}
 use mathlib.Core.List.{List}
 use Prim.Native.Nat.{ℕ, _+_, _<_, _≤_}
 use native.Mathlib.Omega.{arith}
-use lib.ListN.{length, getD, set, take}
+use lib.ListN.{length, set, take}
 use borrow.Author.Count.{below-more}
 use Rattle.std.specs.declared.option.Option.{Option}
 use Rattle.std.specs.declared.option.Option.the-variants.{Some, None}
-use Rattle.std.specs.declared.result.Result.{Result}
-use Rattle.std.specs.declared.result.Result.the-variants.{Ok, Err}
+use Rattle.std.specs.declared.result.Result.the-variants.{Err}
 use Rattle.std.proofs.shelf.Lists.{getD-set-same, getD-take, length-take-le}
 use Rattle.tasks.specs.declared.record.TaskRecord.{TaskRecord}
-use Rattle.plan.specs.Placing.{Cannot-place, First-fit, Passes, Placed, Places, Takes, lane-of, turn}
+use Rattle.plan.specs.Placing.{Cannot-place, First-fit, Passes, Places, Takes, lane-of, turn}
 use Rattle.plan.specs.Steps.{First-fitted}
 use Rattle.plan.specs.declared.fault.PlanFault.{PlanFault}
 use Rattle.plan.specs.declared.fault.PlanFault.the-variants.{List as List-fault, PlanLength, NoLane, NoFit}
@@ -19,7 +18,7 @@ use Rattle.plan.proofs.Growing.{Agree, placed-passes, written-agrees}
 use Rattle.plan.proofs.Order.{turn-within}
 use Rattle.plan.proofs.Settled.{Begun, takes-alike}
 
--- What the search came to is one thing.
+-- What was found is one thing.
 pub one-found : {o : Option ℕ} {x y : ℕ} → o ≡ Some x → o ≡ Some y → x ≡ y
 one-found e f = cc
 

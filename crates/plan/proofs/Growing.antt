@@ -1,6 +1,6 @@
 -- How the rows of the lanes grow, turn by turn, and why lanes whose every task fits are safe.
 use mathlib.Core.Path.{_≡_, refl, sym, ap, subst, _∙_}
-use mathlib.Core.Bool.{Bool, true, false, cond}
+use mathlib.Core.Bool.{Bool, cond}
 use mathlib.Core.List.{List, [], _∷_, _++_, map}
 use mathlib.Core.Logic.{_≢_, ⊎-elim}
 use Prim.Native.Nat.{ℕ, zero, suc, _+_, _<_, _≤_}
@@ -11,10 +11,9 @@ use lib.ListN.{length, getD, set, take}
 use Rattle.std.specs.Results.{Cases}
 use Rattle.std.specs.declared.result.Result.{Result}
 use Rattle.std.specs.declared.result.Result.the-variants.{Ok, Err}
-use Rattle.std.specs.shelf.Lists.{All, kept-by}
+use Rattle.std.specs.shelf.Lists.{kept-by}
 use Rattle.std.proofs.shelf.Elements.{kept-by-more}
-use Rattle.std.proofs.shelf.Filters.{length-kept-by-more}
-use Rattle.std.proofs.shelf.Lists.{append-nil, getD-append-left, getD-map, getD-push, getD-set-other, length-push, length-map, map-append, take-all, take-append-le, take-at}
+use Rattle.std.proofs.shelf.Lists.{append-nil, getD-append-left, getD-map, getD-push, getD-set-other, length-push, map-append, take-all, take-append-le, take-at}
 use Rattle.std.proofs.shelf.Tests.{cases-eq, cases-lt, eq-eqb, ne-eqb}
 use Rattle.fit.specs.Lane.{Safe-task, no-task}
 use Rattle.fit.specs.Theorems.{Accepted-in-turn}
@@ -22,7 +21,7 @@ use Rattle.fit.proofs.Prefix.{accepted-lanes-are-safe}
 use Rattle.tasks.specs.List.{held}
 use Rattle.tasks.specs.declared.record.TaskRecord.{TaskRecord}
 use Rattle.tasks.specs.declared.table.Table.{Table}
-use Rattle.plan.specs.Placing.{Checked, Fails, Fits, First-fit, Lanes-are-safe, On-lanes, Passes, Places, Takes, earlier, lane-of, lane-row, order, record-of, row-among, turn}
+use Rattle.plan.specs.Placing.{Checked, Fails, Fits, Lanes-are-safe, On-lanes, Passes, Places, Takes, earlier, lane-of, lane-row, order, record-of, row-among, turn}
 use Rattle.plan.specs.Steps.{row-on}
 use Rattle.plan.specs.declared.fault.PlanFault.{PlanFault}
 use Rattle.plan.proofs.Order.{length-order, turn-of, turns-apart}

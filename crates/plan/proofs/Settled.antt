@@ -1,14 +1,14 @@
 -- Place and check have one answer each: no two faults, no fault beside a pass, and no two placings.
-use mathlib.Core.Path.{_≡_, refl, sym, ap, subst, _∙_}
+use mathlib.Core.Path.{_≡_, sym, ap, subst, _∙_}
 use mathlib.Core.List.{List}
 use mathlib.Core.Logic.{⊎-elim}
 use Prim.Native.Nat.{ℕ, zero, suc, _+_, _<_, _≤_}
 use native.Mathlib.Omega.{arith}
-use lib.ListN.{length, getD}
+use lib.ListN.{length}
 use Rattle.std.proofs.shelf.Lists.{ext-getD}
 use Rattle.std.proofs.shelf.Tests.{cases-lt, cases-order}
 use Rattle.tasks.specs.declared.record.TaskRecord.{TaskRecord}
-use Rattle.plan.specs.Placing.{Cannot-place, Fails, First-fit, Fits, Passes, Places, Settled, Takes, lane-of, record-of, turn}
+use Rattle.plan.specs.Placing.{Cannot-place, Fails, First-fit, Passes, Places, Settled, Takes, lane-of, record-of, turn}
 use Rattle.plan.specs.declared.fault.PlanFault.{PlanFault}
 use Rattle.plan.specs.declared.fault.PlanFault.the-variants.{List as List-fault, PlanLength, NoLane, NoFit}
 use Rattle.plan.proofs.Order.{turn-of}

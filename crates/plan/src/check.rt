@@ -1,6 +1,6 @@
 // Checking a plan, whoever made it.
 ghost use mathlib.Core.Path.{_≡_};
-ghost use Prim.Native.Nat.{ℕ, _<_, _≤_};
+ghost use Prim.Native.Nat.{ℕ, _<_};
 ghost use lib.ListN.{length};
 ghost use Rattle.plan.specs.Placing.{Checked, Fails, Fits, On-lanes, lane-of};
 ghost use Rattle.plan.specs.Steps.{Off-lanes};

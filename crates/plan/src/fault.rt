@@ -57,7 +57,7 @@ impl PlanFault {
 pub impl From<ListFault> for PlanFault as PlanFaultFromList {
     ghost converts = { λ fault r. r ≡ List fault };
 
-    fn from(fault: ListFault) -> PlanFault {
-        PlanFault::List(fault)
+    fn from(below: ListFault) -> PlanFault {
+        PlanFault::List(below)
     }
 }

@@ -1,6 +1,4 @@
 // Placing a list's tasks by first fit.
-ghost use mathlib.Core.Path.{_≡_};
-ghost use lib.ListN.{length, take};
 ghost use Rattle.plan.specs.Placing.{Placed};
 ghost use Rattle.plan.specs.Steps.{First-fitted};
 ghost use Rattle.tasks.specs.Filling.{tasks-of};
@@ -11,6 +9,7 @@ use crate::turns::awaiting;
 use crate::turns::next;
 use fit::question::FitTest;
 use tasks::list::TaskList;
+use tasks::table::MOST_TASKS;
 
 // Gives each task, in the order of tasks, the first lane whose test says yes over the tasks already there.
 // The plan is written only if every task has a lane.
@@ -27,23 +26,23 @@ pub fn place<F: FitTest>(list: &TaskList, test: &F, plan: &mut [u8]) -> Result<(
 }
 
 // The lane of each task by first fit, or the first task in order that no lane takes.
-fn first_fit<F: FitTest>(list: &TaskList, test: &F) -> Result<[u8; 32], PlanFault>
+fn first_fit<F: FitTest>(list: &TaskList, test: &F) -> Result<[u8; MOST_TASKS], PlanFault>
     ensures { λ r. ⌜ First-fitted (F·FitTest .yes (now (test .entry))) (now (list .entry) .lanes) (tasks-of (now (list .entry))) r ⌝ }
 {
     let records = list.records();
     let lanes = list.lanes();
     let mut waiting = awaiting(list);
     let mut rows = Rows::empty();
-    let mut plan = [0; 32];
+    let mut plan = [0; MOST_TASKS];
     while let Some(number) = next(&mut waiting) {
         let task = records[number];
         let mut lane = 0;
-        let first = 'search: loop {
+        let first = 'seek: loop {
             if lane >= lanes {
-                break 'search None;
+                break 'seek None;
             }
             if rows.takes(lane, test, task) {
-                break 'search Some(lane);
+                break 'seek Some(lane);
             }
             lane += 1;
         };

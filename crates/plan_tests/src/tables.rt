@@ -101,6 +101,16 @@ fn places() -> Result<(), Fail> {
     placed(2, &[task(4, 6, 6), task(3, 6, 6)], &[0, 1])
 }
 
+// As many tasks as a list may have: thirty fill the first lane.
+#[test]
+fn places_a_full_list() -> Result<(), Fail> {
+    let test = made(Linear::new(GRID))?;
+    let list = list_of(2, &[task(1, 60, 60); 32])?;
+    let mut plan = [9; 32];
+    answered(place(&list, &test, &mut plan), 0, 0)?;
+    check(plan[0] == 0 && plan[29] == 0 && plan[30] == 1 && plan[31] == 1)
+}
+
 #[test]
 fn places_nothing() -> Result<(), Fail> {
     not_placed(1, &office(), 12, 2)?;

@@ -1,10 +1,8 @@
 -- A plan that is long enough, on lanes of the box and accepted in turn passes, and its lanes are safe.
-use mathlib.Core.Path.{_≡_, subst}
-use Prim.Native.Nat.{ℕ, _<_}
+use mathlib.Core.Path.{_≡_}
 use native.Mathlib.Omega.{arith}
 use lib.ListN.{length}
 use Rattle.tasks.specs.Filling.{tasks-of}
-use Rattle.plan.specs.Placing.{lane-of}
 use Rattle.plan.proofs.Growing.{checked-in-turn}
 use Rattle.plan.proofs.check.check.Needs as need
 

@@ -1,18 +1,15 @@
 -- Each task is asked over the row of its lane in its turn.
-use mathlib.Core.Path.{_≡_, refl, sym, ap, subst, _∙_}
-use mathlib.Core.Logic.{⊎-elim}
+use mathlib.Core.Path.{_≡_, refl, sym, ap, subst}
 use mathlib.Core.List.{List, [], _∷_, _++_, map}
-use Prim.Native.Nat.{ℕ, _+_, _<_, _≤_}
+use Prim.Native.Nat.{ℕ, _+_, _<_}
 use native.Mathlib.Omega.{arith}
 use lib.ListN.{length, set}
 use borrow.Author.Count.{below-more}
-use Rattle.std.specs.Orderings.{Decides}
-use Rattle.std.proofs.shelf.Results.{err-from-errBy}
 use Rattle.std.proofs.shelf.Ways.{not-from-decides}
 use Rattle.tasks.specs.Filling.{tasks-of}
 use Rattle.tasks.specs.List.{held}
 use Rattle.tasks.specs.declared.record.TaskRecord.{TaskRecord}
-use Rattle.plan.specs.Placing.{Fits, Takes, lane-of, record-of, turn}
+use Rattle.plan.specs.Placing.{Takes, lane-of, record-of, turn}
 use Rattle.plan.specs.Steps.{row-on}
 use Rattle.plan.proofs.Awaiting.{length-tasks}
 use Rattle.plan.proofs.Turning.{asked-in-turn, room-in-row, turned-next, turned-start}

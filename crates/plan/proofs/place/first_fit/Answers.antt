@@ -1,7 +1,7 @@
 -- Each task gets, in its turn, the first lane that takes it.
 use mathlib.Core.Path.{_≡_, refl, sym, ap, subst, _∙_}
 use mathlib.Core.List.{List, [], _∷_, _++_, map}
-use Prim.Native.Nat.{ℕ, _+_, _<_, _≤_}
+use Prim.Native.Nat.{ℕ, _+_, _<_}
 use native.Mathlib.Omega.{arith}
 use lib.ListN.{length, set}
 use Rattle.std.proofs.shelf.Lists.{getD-set-same, length-set}
@@ -51,7 +51,7 @@ returns-in-rest-first g c =
     let k = c .loop-number .inv .2 in
     let turned = c .loop-number .inv .3 in
     let took = c .in-Some .ensures tt .turn tasks k (turned .awaiting) in
-    let none : (lane : ℕ) → lane < list .lanes → lane < c .search .lane =
+    let none : (lane : ℕ) → lane < list .lanes → lane < c .seek .lane =
     elim (c .if-lane-lanes .came) [
       | then-lane-lanes w ↦ λ lane l. omega (arith, w .if-lane-lanes .taken, c .lanes-lanes .ensures)
       | else-lane-lanes·then-takes w ↦ absurd (found-or-not {o = c .if-lane-lanes .first} (w .first-is) (c .in-rest-first .is))
@@ -62,7 +62,7 @@ returns-in-rest-first g c =
       took .1,
       c .loop-number .inv .4,
       λ lane l takes.
-          c .search .inv .1 lane (none lane l)
+          c .seek .inv .1 lane (none lane l)
           (takes-asked tasks (c .loop-number .plan) k (c .loop-number .waiting) (c .loop-number .rows .lanes) turned
           (g .F·FitTest .yes (c .args .test .now)) (list .lanes) (c .records-records .result .now) (c .records-records .ensures)
           (c .in-Some .number) (took .1) lane (omega (arith, list .«lane_range»)) takes),
@@ -81,11 +81,11 @@ loop-number-again g c =
     let records = c .records-records .result .now in
     let yes-to = g .F·FitTest .yes (c .args .test .now) in
     let took = c .in-Some .ensures tt .turn tasks k (turned .awaiting) in
-    let found : (lane ≡ c .search .lane) × (lane < list .lanes) × yes-to (row-on rows lane) (record-of records number) =
+    let found : (lane ≡ c .seek .lane) × (lane < list .lanes) × yes-to (row-on rows lane) (record-of records number) =
     elim (c .if-lane-lanes .came) [
       | then-lane-lanes w ↦ absurd (found-or-not {o = c .if-lane-lanes .first} (c .in-Some-first .is) (w .first-is))
       | else-lane-lanes·then-takes w ↦
-          let same : lane ≡ c .search .lane = one-found {o = c .if-lane-lanes .first} (c .in-Some-first .is) (w .first-is) in (
+          let same : lane ≡ c .seek .lane = one-found {o = c .if-lane-lanes .first} (c .in-Some-first .is) (w .first-is) in (
             same,
             omega (arith, same, w .if-lane-lanes .left, c .lanes-lanes .ensures),
             subst (λ (l : ℕ). yes-to (row-on rows l) (record-of records number)) (sym same) (w .takes .ensures .0 (w .if-takes .taken)),
@@ -109,7 +109,7 @@ loop-number-again g c =
           (asked-takes tasks plan k (c .loop-number .waiting) rows turned yes-to (list .lanes) records (c .records-records .ensures)
           number (took .1) lane four (found .2))
           (λ lower l takes.
-          c .search .inv .1 lower (omega (arith, found .0))
+          c .seek .inv .1 lower (omega (arith, found .0))
           (takes-asked tasks plan k (c .loop-number .waiting) rows turned yes-to (list .lanes) records (c .records-records .ensures)
           number (took .1) lower (omega arith) takes)),
     )
@@ -126,7 +126,7 @@ returns-in-Break-put g c =
     elim (c .if-lane-lanes .came) [
       | then-lane-lanes w ↦ absurd (found-or-not {o = c .if-lane-lanes .first} (c .in-Some-first .is) (w .first-is))
       | else-lane-lanes·then-takes w ↦
-          let same : lane ≡ c .search .lane = one-found {o = c .if-lane-lanes .first} (c .in-Some-first .is) (w .first-is) in
+          let same : lane ≡ c .seek .lane = one-found {o = c .if-lane-lanes .first} (c .in-Some-first .is) (w .first-is) in
           omega (arith, w .if-lane-lanes .left, c .lanes-lanes .ensures, list .«lane_range»)
     ] in
     absurd

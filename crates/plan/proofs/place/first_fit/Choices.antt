@@ -1,21 +1,20 @@
--- After each turn the tasks so far are placed by first fit; the search has passed lanes that do not take the task.
+-- After each turn the tasks so far are placed by first fit; the lanes passed over do not take the task.
 use mathlib.Core.Path.{_≡_}
 use Prim.Native.Nat.{ℕ, _-_, _<_, _≤_}
 use lib.ListN.{length}
 use Rattle.tasks.specs.Filling.{tasks-of}
-use Rattle.plan.specs.Placing.{First-fit}
 use Rattle.plan.specs.Steps.{how-many, row-on}
 use Rattle.plan.proofs.Settled.{Begun}
 use Rattle.plan.proofs.Turning.{Turned}
 use Rattle.plan.proofs.place.first_fit.Given as given
 
-abbrev pub Inv-search : given.InvT-search
-Inv-search g l =
+abbrev pub Inv-seek : given.InvT-seek
+Inv-seek g l =
     (l .lane ≤ l .lanes)
     × ((lower : ℕ) → lower < l .lane → g .F·FitTest .yes (l .test) (row-on (l .rows .lanes) lower) (l .task) → ⊥)
 
-abbrev pub μ-search : given.MeasureT-search
-μ-search g l = l .lanes - l .lane
+abbrev pub μ-seek : given.MeasureT-seek
+μ-seek g l = l .lanes - l .lane
 
 abbrev pub Inv-loop-number : given.InvT-loop-number
 Inv-loop-number g l =
