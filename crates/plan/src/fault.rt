@@ -4,12 +4,9 @@ ghost use Rattle.plan.specs.Codes.{layer, number, place};
 ghost use Rattle.plan.specs.declared.fault.PlanFault.the-variants.{List};
 use sheet::fault::Layer;
 use tasks::fault::ListFault;
-use tasks::fault::ListFaultDebug;
-use tasks::fault::ListFaultEq;
-use tasks::fault::ListFaultPartialEq;
 
 // Why there is no such plan. `Codes` in specs/ gives each case its number and its place.
-#[derive(Clone, Copy, PartialEq, Eq, Debug)]
+#[derive(Clone, Copy)]
 pub enum PlanFault {
     // A fault of the list layer or of the one below it.
     List(ListFault),

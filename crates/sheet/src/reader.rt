@@ -62,7 +62,7 @@ fn record_at<'a>(bytes: &'a [u8], at: usize, end: usize) -> SheetRecord<'a>
 }
 
 // The sheet's bytes and how far they were read: `at` is the offset of the next record.
-#[derive(Clone, Copy, Debug)]
+#[derive(Clone, Copy)]
 pub struct Reader<'a> {
     bytes: &'a [u8],
     at: usize,

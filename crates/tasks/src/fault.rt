@@ -4,12 +4,9 @@ ghost use Rattle.tasks.specs.Codes.{layer, number, place};
 ghost use Rattle.tasks.specs.declared.fault.ListFault.the-variants.{Sheet};
 use sheet::fault::Layer;
 use sheet::fault::SheetFault;
-use sheet::fault::SheetFaultDebug;
-use sheet::fault::SheetFaultEq;
-use sheet::fault::SheetFaultPartialEq;
 
 // The settings that have a range: a list's grid and lane count, and a surcharge's switch cost.
-#[derive(Clone, Copy, PartialEq, Eq, Debug)]
+#[derive(Clone, Copy)]
 pub enum Setting {
     Grid,
     Lanes,
@@ -17,7 +14,7 @@ pub enum Setting {
 }
 
 // Why there is no such list. `Codes` in specs/ gives each case its number and its place.
-#[derive(Clone, Copy, PartialEq, Eq, Debug)]
+#[derive(Clone, Copy)]
 pub enum ListFault {
     // A fault of the sheet layer.
     Sheet(SheetFault),

@@ -3,7 +3,7 @@ ghost use mathlib.Core.Path.{_≡_};
 ghost use Rattle.tasks.specs.Order.{Strict-order, goes-before};
 
 // What the order of tasks looks at: the lower limit goes first, then the lower number.
-#[derive(Clone, Copy, PartialEq, Eq, Debug)]
+#[derive(Clone, Copy)]
 pub struct Rank {
     pub limit: u32,
     pub number: usize,

@@ -1,10 +1,10 @@
 // The plain numbers of a task, lawful or not.
 ghost use Rattle.std.specs.Orderings.{Decides};
-ghost use Rattle.tasks.specs.Task.{Bounded, Lawful};
+ghost use Rattle.tasks.specs.Task.{Bounded};
 
 // A task's work, limit and gap in slots: the execution requirement, relative deadline and
 // period (minimum inter-arrival separation) of Fisher, Baruah and Baker, ECRTS 2006, section 2.1.
-#[derive(Clone, Copy, PartialEq, Eq, Debug)]
+#[derive(Clone, Copy)]
 pub struct TaskRecord {
     pub work: u32,
     pub limit: u32,
@@ -25,12 +25,5 @@ impl TaskRecord {
             && self.gap <= widest
             && self.limit <= LONGEST_LIMIT
             && u64::from(self.limit) <= 4 * u64::from(self.gap)
-    }
-
-    // Whether this is a task of a list with this grid.
-    pub fn lawful(self, grid: u32) -> bool
-        ensures { λ r. ⌜ Decides r (Lawful grid self) ⌝ }
-    {
-        self.bounded(grid) && grid % self.gap == 0
     }
 }

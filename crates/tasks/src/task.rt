@@ -3,15 +3,12 @@ ghost use mathlib.Core.Path.{_≡_};
 ghost use Rattle.std.specs.Options.{Cases};
 ghost use Rattle.tasks.specs.Task.{Bounded, widest-grid};
 use crate::record::TaskRecord;
-use crate::record::TaskRecordDebug;
-use crate::record::TaskRecordEq;
-use crate::record::TaskRecordPartialEq;
 
 // The widest grid a list may have, and so the widest gap a task may have.
 pub const WIDEST_GRID: u32 = 16_777_216;
 
 // No task exists that breaks a bound on work, limit or gap.
-#[derive(Clone, Copy, PartialEq, Eq, Debug)]
+#[derive(Clone, Copy)]
 pub struct Task {
     numbers: TaskRecord,
     ghost bounded: { Bounded widest-grid numbers },

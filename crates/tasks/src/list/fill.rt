@@ -54,7 +54,7 @@ impl TaskList {
     pub fn add(&mut self, numbers: TaskRecord) -> Result<(), ListFault>
         ensures { λ r. ⌜ Added numbers (now (self .entry)) r (now (self .exit)) ⌝ }
     {
-        let number = self.table.len();
+        let number = self.len();
         if number >= MOST_TASKS {
             return Err(ListFault::TooMany);
         }
@@ -85,7 +85,7 @@ impl TaskList {
     pub fn len(&self) -> usize
         ensures { λ r. ⌜ r ≡ length (tasks-of (now (self .entry))) ⌝ }
     {
-        self.table.len()
+        self.table.records().len()
     }
 
     // The tasks' numbers, in order.

@@ -1,7 +1,6 @@
 // What a table does.
 ghost use mathlib.Core.Path.{_≡_};
 ghost use mathlib.Core.List.{[]};
-ghost use lib.ListN.{length};
 ghost use Rattle.tasks.specs.List.{held};
 ghost use Rattle.tasks.specs.Tables.{Pushed};
 use crate::fault::ListFault;
@@ -19,13 +18,6 @@ impl Table {
             places: [BLANK; MOST_TASKS],
             len: 0,
         }
-    }
-
-    // How many records it holds.
-    pub fn len(&self) -> usize
-        ensures { λ r. ⌜ r ≡ length (held (now (self .entry))) ⌝ }
-    {
-        self.len
     }
 
     // One record more at the end, or a refusal where every place is taken.
