@@ -1,1 +1,3 @@
+pub mod OnTime
 pub mod Places
+pub mod Run
