@@ -1,3 +1,4 @@
+pub mod Closing
 pub mod OnTime
 pub mod Places
 pub mod Run

@@ -2,10 +2,10 @@
 use mathlib.Core.Path.{_≡_}
 use mathlib.Core.Bool.{true}
 use mathlib.Core.Logic.{_⊎_}
-use mathlib.Core.List.{List}
+use mathlib.Core.List.{List, [], _∷_}
 use Prim.Native.Nat.{ℕ, _+_, _<_, _≤_}
 use lib.ListN.{length, getD, take}
-use Rattle.board.specs.PlainBoard.{PlainBoard, after-call, after-calls, answers-to, bit, clock-end, new-board, standing-of}
+use Rattle.board.specs.PlainBoard.{PlainBoard, after-call, after-calls, answers-to, bit, clock-end, new-board, served-task, standing-of}
 use Rattle.board.specs.declared.call.Answer.{Answer}
 use Rattle.board.specs.declared.call.Call.{Call}
 use Rattle.board.specs.declared.call.Call.the-variants.{Clock, End}
@@ -13,6 +13,7 @@ use Rattle.board.specs.declared.fault.BoardFault.{BoardFault}
 use Rattle.board.specs.declared.fault.BoardFault.the-variants.{Plan, NoLane, NoTask, Early, QueueFull, SlotOpen, SlotShut, NotServed, ClockEnd}
 use Rattle.fit.specs.Lane.{Job}
 use Rattle.plan.specs.Placing.{Fails, Lanes-are-safe, Passes, Places, Settled, lane-of, record-of}
+use Rattle.std.specs.declared.option.Option.the-variants.{Some}
 use Rattle.std.specs.declared.result.Result.{Result}
 use Rattle.std.specs.declared.result.Result.the-variants.{Ok, Err}
 use Rattle.std.specs.shelf.Lists.{Has}
@@ -32,11 +33,18 @@ pub record Closes (b : PlainBoard) (call : Call) (task : ℕ) (job : Job) : Type
   pub waits : Waits b task job
   pub gone : (other : Job) → Waits (after-call b call) task other → other .release ≡ job .release → ⊥
 
--- A job that closes does so at a slot's end, and it said that it was finished or has now been served its whole work.
+-- It closes rightly: at a slot's end, as the job that its lane serves, the earliest of the lane's first task that has one,
+-- and it said that it was finished or has now been served its whole work.
+pub record Rightly (b : PlainBoard) (call : Call) (task : ℕ) (job : Job) : Type 0 where
+  pub finished : ℕ
+  pub at-end : call ≡ End finished
+  pub served : served-task b (lane-of (b .plan) task) ≡ Some task
+  pub earliest : take 1 (standing-of b task .waiting) ≡ job ∷ []
+  pub done : (bit finished (lane-of (b .plan) task) ≡ true) ⊎ (record-of (b .tasks) task .work ≤ job .served + 1)
+
+-- Every job that closes with the call does so rightly.
 abbrev pub Closed-rightly : PlainBoard → Call → Type 0
-Closed-rightly b call =
-    (task : ℕ) (job : Job) → Closes b call task job
-    → (finished : ℕ) × (call ≡ End finished) × ((bit finished (lane-of (b .plan) task) ≡ true) ⊎ (record-of (b .tasks) task .work ≤ job .served + 1))
+Closed-rightly b call = (task : ℕ) (job : Job) → Closes b call task job → Rightly b call task job
 
 -- The board after the first k calls of a list.
 abbrev pub board-at : PlainBoard → List Call → ℕ → PlainBoard
