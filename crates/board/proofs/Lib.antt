@@ -1,4 +1,5 @@
 pub mod Closing
+pub mod Judged
 pub mod OnTime
 pub mod Places
 pub mod Run
