@@ -1,7 +1,7 @@
 -- What is proved of every plan for a task list, whoever made it, under any test that keeps the law.
 use mathlib.Core.Path.{_≡_, sym, ap, _∙_}
 use mathlib.Core.List.{List, [], _∷_, _++_}
-use Prim.Native.Nat.{ℕ, _<_, _≤_}
+use Prim.Native.Nat.{ℕ, _≤_}
 use native.Mathlib.Omega.{arith}
 use lib.ListN.{length}
 use Rattle.tasks.specs.declared.record.TaskRecord.{TaskRecord}

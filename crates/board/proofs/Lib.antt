@@ -1,5 +1,6 @@
 pub mod Closing
 pub mod Judged
+pub mod NeverFull
 pub mod OnTime
 pub mod Places
 pub mod Run

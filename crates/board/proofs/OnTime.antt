@@ -5,10 +5,9 @@ use mathlib.Core.Logic.{_⊎_, inl, inr, ⊎-elim}
 use Prim.Native.Nat.{ℕ, zero, suc, _+_, _<_, _≤_}
 use native.Mathlib.Omega.{arith}
 use lib.ListN.{length, getD, take}
-use Rattle.std.specs.shelf.Lists.{All, Has}
-use Rattle.std.proofs.shelf.Elements.{all-getD, has-push-cases}
+use Rattle.std.specs.shelf.Lists.{Has}
+use Rattle.std.proofs.shelf.Elements.{has-push-cases}
 use Rattle.std.proofs.shelf.Tests.{cases-lt}
-use Rattle.tasks.specs.List.{blank}
 use Rattle.tasks.specs.declared.record.TaskRecord.{TaskRecord}
 use Rattle.fit.specs.Lane.{Job, Standing, Releases, no-more, stays, comes, no-task, unreleased}
 use Rattle.plan.specs.Placing.{Lanes-are-safe, lane-of, record-of}
@@ -16,7 +15,7 @@ use Rattle.board.specs.declared.call.Call.{Call}
 use Rattle.board.specs.PlainBoard.{PlainBoard, new-board, task-place}
 use Rattle.board.specs.Promise.{Always-on-time, On-time}
 use Rattle.board.proofs.Places.{record-at-place}
-use Rattle.board.proofs.Run.{Run, Timed, kept-after-calls, run-after-calls, run-from-new}
+use Rattle.board.proofs.Run.{Run, Works-fit, kept-after-calls, run-after-calls, run-from-new}
 
 -- A job that waits did so before the releases, or was just released.
 waits-or-came :
@@ -38,7 +37,7 @@ on-time lanes b run safe task job h waits =
     let inside = run .on-lanes task h in
     let lane = run .each own inside in
     let there = record-at-place b task h no-task in
-    let timed = all-getD Timed (b .tasks) task blank h (run .timed) in
+    let fits = run .works task h in
     ⊎-elim
     (λ old.
     ⊎-elim (λ early. early)
@@ -53,15 +52,15 @@ on-time lanes b run safe task job h waits =
       past = subst (λ (t : TaskRecord). job .release + t .limit ≤ b .clock) (sym there) late;
     })))
     (cases-lt (b .clock) (job .release + record-of (b .tasks) task .limit)))
-    (λ new. omega (arith, timed .0))
+    (λ new. omega (arith, fits))
     (waits-or-came (lane .released) place job waits)
 
 module _ (tasks : List TaskRecord) (lanes : ℕ) (plan : List ℕ) (start : ℕ) where
   -- No job is late at any point of any list of calls.
   pub always-on-time :
-      All Timed tasks → ((task : ℕ) → task < length tasks → lane-of plan task < lanes) → Lanes-are-safe lanes tasks plan
+      Works-fit tasks → ((task : ℕ) → task < length tasks → lane-of plan task < lanes) → Lanes-are-safe lanes tasks plan
       → (calls : List Call) → Always-on-time (new-board tasks lanes plan start) calls
-  always-on-time timed on-lanes safe calls k h =
+  always-on-time works on-lanes safe calls k h =
       let new = new-board tasks lanes plan start in
-      on-time lanes _ (run-after-calls lanes new (take k calls) (run-from-new tasks lanes plan start timed on-lanes))
+      on-time lanes _ (run-after-calls lanes new (take k calls) (run-from-new tasks lanes plan start works on-lanes))
       (kept-after-calls (Lanes-are-safe lanes) new (take k calls) safe)

@@ -10,12 +10,9 @@ use lib.Dec.{leb, ltb}
 use lib.ListN.{length, getD, set}
 use Rattle.std.specs.declared.option.Option.{Option}
 use Rattle.std.specs.declared.option.Option.the-variants.{None, Some}
-use Rattle.std.specs.shelf.Lists.{All}
-use Rattle.std.proofs.shelf.Elements.{all-getD}
 use Rattle.std.proofs.shelf.Lists.{getD-set-other, getD-set-same, length-map, length-set}
 use Rattle.std.proofs.shelf.Tests.{cases-eq, leb-false, ltb-false}
-use Rattle.tasks.specs.List.{blank}
-use Rattle.tasks.specs.Task.{Bounded}
+use Rattle.tasks.specs.Task.{Work-fits}
 use Rattle.tasks.specs.declared.record.TaskRecord.{TaskRecord}
 use Rattle.fit.specs.Lane.{Job, Standing, May-release, Reached, starts, slot, Releases, no-more, stays, comes, fresh, no-task, unreleased, with-job}
 use Rattle.fit.proofs.Prefix.{length-reached}
@@ -27,12 +24,9 @@ use Rattle.board.specs.declared.fault.BoardFault.the-variants.{NoTask, Early, 
 use Rattle.board.specs.PlainBoard.{PlainBoard, accepted-board, after-begin, after-call, after-calls, after-end, after-post, after-service, bit, count-from, fault-if, first-fault, lane-standings, most-waiting, new-board, next-release, post-fault, refusal, standing-of, task-place}
 use Rattle.board.proofs.Places.{place-in-row, record-at-place}
 
--- Some time to the limit, and some gap.
-abbrev pub Timed : TaskRecord → Type 0
-Timed t = (1 ≤ t .limit) × (1 ≤ t .gap)
-
-pub bounded-is-timed : (widest : ℕ) (t : TaskRecord) → Bounded widest t → Timed t
-bounded-is-timed widest t h = omega (arith, h .0 .0, h .0 .1, h .0 .2)
+-- Every task of a list has some work, which fits into its limit and into its gap.
+abbrev pub Works-fit : List TaskRecord → Type 0
+Works-fit tasks = (task : ℕ) → task < length tasks → Work-fits (record-of tasks task)
 
 -- The two ways of a call: it is accepted, or a fault refuses it.
 abbrev left-by : PlainBoard → Call → Option BoardFault → PlainBoard
@@ -130,7 +124,7 @@ posted (comes may r) (suc place) h g n = comes may (posted r place (omega arith)
 
 -- What holds of a board on so many lanes, whatever calls it took.
 pub record Run (lanes : ℕ) (b : PlainBoard) : Type 0 where
-  pub timed : All Timed (b .tasks)
+  pub works : Works-fit (b .tasks)
   pub on-lanes : (task : ℕ) → task < length (b .tasks) → lane-of (b .plan) task < lanes
   pub many : length (b .lanes) ≡ lanes
   pub each : (lane : ℕ) → lane < lanes → Lane-run (lane-row (b .tasks) (b .plan) lane) (b .clock) (lane-standings b lane)
@@ -153,9 +147,6 @@ pub length-counted : {X : Type 0} (f : ℕ → X) (n : ℕ) → length (map f (c
 length-counted f n = length-map (count-from 0 n) f ∙ length-count 0 n
 
 module _ (lanes : ℕ) (b : PlainBoard) (run : Run lanes b) where
-  timed-task : (task : ℕ) → task < length (b .tasks) → Timed (record-of (b .tasks) task)
-  timed-task task h = all-getD Timed (b .tasks) task blank h (run .timed)
-
   -- The lane of a task takes one more release of it.
   posted-lane :
       (task : ℕ) → task < length (b .tasks) → next-release (record-of (b .tasks) task) (standing-of b task) ≤ b .clock
@@ -167,7 +158,7 @@ module _ (lanes : ℕ) (b : PlainBoard) (run : Run lanes b) where
         before = own .before;
         reached = own .reached;
         released = posted (own .released) (task-place b task) (place-in-row b task h)
-            (subst (λ (t : TaskRecord). 1 ≤ t .gap) (sym there) (timed-task task h .1))
+            (subst (λ (t : TaskRecord). 1 ≤ t .gap) (sym there) (omega (arith, run .works task h)))
             (subst (λ (t : TaskRecord). next-release t (standing-of b task) ≤ b .clock) (sym there) n);
       }
 
@@ -179,7 +170,7 @@ module _ (lanes : ℕ) (b : PlainBoard) (run : Run lanes b) where
       let now = posted-lane task h (post .due) in
       let new = set (lane-standings b own) (task-place b task) (with-job (b .clock) (standing-of b task)) in
       record {
-        timed = run .timed;
+        works = run .works;
         on-lanes = run .on-lanes;
         many = length-set (b .lanes) own new ∙ run .many;
         each = λ lane l.
@@ -193,13 +184,13 @@ module _ (lanes : ℕ) (b : PlainBoard) (run : Run lanes b) where
       }
 
   run-after-begin : Run lanes (after-begin b)
-  run-after-begin = record { timed = run .timed; on-lanes = run .on-lanes; many = run .many; each = run .each }
+  run-after-begin = record { works = run .works; on-lanes = run .on-lanes; many = run .many; each = run .each }
 
   -- At the slot's end each lane has run one slot further.
   run-after-end : (finished : ℕ) → Run lanes (after-end b finished)
   run-after-end finished =
       record {
-        timed = run .timed;
+        works = run .works;
         on-lanes = run .on-lanes;
         many = length-counted (after-service b finished) (length (b .lanes)) ∙ run .many;
         each = λ lane l.
@@ -224,11 +215,11 @@ module _ (lanes : ℕ) (b : PlainBoard) (run : Run lanes b) where
 -- A new board is such a board, and stays one.
 module _ (tasks : List TaskRecord) (lanes : ℕ) (plan : List ℕ) (start : ℕ) where
   pub run-from-new :
-      All Timed tasks → ((task : ℕ) → task < length tasks → lane-of plan task < lanes) → Run lanes (new-board tasks lanes plan start)
-  run-from-new timed on-lanes =
+      Works-fit tasks → ((task : ℕ) → task < length tasks → lane-of plan task < lanes) → Run lanes (new-board tasks lanes plan start)
+  run-from-new works on-lanes =
       let new : ℕ → List Standing = λ lane. fresh start (lane-row tasks plan lane) .standings in
       record {
-        timed = timed;
+        works = works;
         on-lanes = on-lanes;
         many = length-counted new lanes;
         each = λ lane l.

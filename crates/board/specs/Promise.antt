@@ -7,6 +7,7 @@ use Prim.Native.Nat.{ℕ, _+_, _<_, _≤_}
 use lib.ListN.{length, getD, take}
 use Rattle.board.specs.PlainBoard.{PlainBoard, after-call, after-calls, answers-to, bit, clock-end, new-board, served-task, standing-of}
 use Rattle.board.specs.declared.call.Answer.{Answer}
+use Rattle.board.specs.declared.call.Answer.the-variants.{Refused}
 use Rattle.board.specs.declared.call.Call.{Call}
 use Rattle.board.specs.declared.call.Call.the-variants.{Clock, End}
 use Rattle.board.specs.declared.fault.BoardFault.{BoardFault}
@@ -57,6 +58,10 @@ Always-on-time b calls = (k : ℕ) → k ≤ length calls → On-time (board-at 
 -- Every job that closes on the way does so rightly.
 abbrev pub Always-closed-rightly : PlainBoard → List Call → Type 0
 Always-closed-rightly b calls = (k : ℕ) → k < length calls → Closed-rightly (board-at b calls k) (getD calls k Clock)
+
+-- No answer refuses a job because as many of its task wait as may.
+abbrev pub Never-full : List Answer → Type 0
+Never-full answers = (task : ℕ) → Has answers (Refused (QueueFull task)) → ⊥
 
 -- Below, `yes-to` is the fit test's set of questions with a yes, and the list has these tasks on so many lanes.
 module _ (yes-to : List TaskRecord → TaskRecord → Type 0) (lanes : ℕ) (tasks : List TaskRecord) where
