@@ -41,6 +41,12 @@ after-call-ways P b call accepted refused =
       | Some fault ↦ λ _. refused
     ] refl
 
+pub after-accepted : (b : PlainBoard) (call : Call) → refusal b call ≡ None → after-call b call ≡ accepted-board b call
+after-accepted b call none = ap (left-by b call) none
+
+pub after-refused : (b : PlainBoard) (call : Call) (fault : BoardFault) → refusal b call ≡ Some fault → after-call b call ≡ b
+after-refused b call fault some = ap (left-by b call) some
+
 -- No call changes the tasks and the plan: what is so of them stays so.
 module _ (P : List TaskRecord → List ℕ → Type 0) where
   kept-when-accepted : (b : PlainBoard) (call : Call) → P (b .tasks) (b .plan) → P (accepted-board b call .tasks) (accepted-board b call .plan)

@@ -5,16 +5,16 @@ use mathlib.Core.Logic.{_⊎_}
 use mathlib.Core.List.{List, [], _∷_}
 use Prim.Native.Nat.{ℕ, _+_, _<_, _≤_}
 use lib.ListN.{length, getD, take}
-use Rattle.board.specs.PlainBoard.{PlainBoard, after-call, after-calls, answers-to, bit, clock-end, new-board, served-task, standing-of}
+use Rattle.board.specs.PlainBoard.{PlainBoard, after-call, after-calls, answers-to, bit, clock-end, new-board, refusal, served-task, standing-of}
 use Rattle.board.specs.declared.call.Answer.{Answer}
 use Rattle.board.specs.declared.call.Answer.the-variants.{Refused}
 use Rattle.board.specs.declared.call.Call.{Call}
-use Rattle.board.specs.declared.call.Call.the-variants.{Clock, End}
+use Rattle.board.specs.declared.call.Call.the-variants.{Clock, End, Post}
 use Rattle.board.specs.declared.fault.BoardFault.{BoardFault}
 use Rattle.board.specs.declared.fault.BoardFault.the-variants.{Plan, NoLane, NoTask, Early, QueueFull, SlotOpen, SlotShut, NotServed, ClockEnd}
 use Rattle.fit.specs.Lane.{Job}
 use Rattle.plan.specs.Placing.{Fails, Lanes-are-safe, Passes, Places, Settled, lane-of, record-of}
-use Rattle.std.specs.declared.option.Option.the-variants.{Some}
+use Rattle.std.specs.declared.option.Option.the-variants.{None, Some}
 use Rattle.std.specs.declared.result.Result.{Result}
 use Rattle.std.specs.declared.result.Result.the-variants.{Ok, Err}
 use Rattle.std.specs.shelf.Lists.{Has}
@@ -23,6 +23,11 @@ use Rattle.tasks.specs.declared.record.TaskRecord.{TaskRecord}
 -- A job of the task waits on the board.
 abbrev pub Waits : PlainBoard → ℕ → Job → Type 0
 Waits b task job = Has (standing-of b task .waiting) job
+
+-- A job that a post takes waits after it: released at the post's clock, and served no slot.
+abbrev pub Taken : PlainBoard → Call → Type 0
+Taken b call =
+    (task : ℕ) → call ≡ Post task → refusal b call ≡ None → Waits (after-call b call) task (record { release = b .clock; served = 0 })
 
 -- No job that waits has reached its release plus its limit.
 abbrev pub On-time : PlainBoard → Type 0
@@ -50,6 +55,10 @@ Closed-rightly b call = (task : ℕ) (job : Job) → Closes b call task job → 
 -- The board after the first k calls of a list.
 abbrev pub board-at : PlainBoard → List Call → ℕ → PlainBoard
 board-at b calls k = after-calls b (take k calls)
+
+-- Every job that is taken on the way waits from then on, until it closes.
+abbrev pub Always-taken : PlainBoard → List Call → Type 0
+Always-taken b calls = (k : ℕ) → k < length calls → Taken (board-at b calls k) (getD calls k Clock)
 
 -- At no point of the list does a job wait that has reached its release plus its limit.
 abbrev pub Always-on-time : PlainBoard → List Call → Type 0
@@ -102,6 +111,8 @@ module _ (yes-to : List TaskRecord → TaskRecord → Type 0) (lanes : ℕ) (tas
     -- each call got the answer, or the number and place, that the plain board gives to the same list
     pub answered : answers ≡ answers-to (new-board tasks lanes plan start) calls
     pub board-left : left ≡ after-calls (new-board tasks lanes plan start) calls
+    -- a job taken waits until it closes
+    pub taken : Always-taken (new-board tasks lanes plan start) calls
     -- no job taken still waits once the clock has reached its release plus its limit
     pub on-time : Always-on-time (new-board tasks lanes plan start) calls
     -- each closed job had said that it was finished or had been served its whole work
