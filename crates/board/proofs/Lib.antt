@@ -1,6 +1,7 @@
 pub mod Closing
 pub mod Judged
 pub mod Kept
+pub mod Lawful
 pub mod NeverFull
 pub mod OnTime
 pub mod Places
