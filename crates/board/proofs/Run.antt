@@ -7,7 +7,7 @@ use Prim.Native.Nat.{ℕ, zero, suc, _+_, _<_, _≤_}
 use native.Mathlib.Nat.{zero-add}
 use native.Mathlib.Omega.{arith}
 use lib.Dec.{leb, ltb}
-use lib.ListN.{length, getD, set}
+use lib.ListN.{length, getD, set, take}
 use Rattle.std.specs.declared.option.Option.{Option}
 use Rattle.std.specs.declared.option.Option.the-variants.{None, Some}
 use Rattle.std.proofs.shelf.Lists.{getD-set-other, getD-set-same, length-map, length-set}
@@ -22,6 +22,7 @@ use Rattle.board.specs.declared.call.Call.the-variants.{Post, Begin, End, Serv
 use Rattle.board.specs.declared.fault.BoardFault.{BoardFault}
 use Rattle.board.specs.declared.fault.BoardFault.the-variants.{NoTask, Early, QueueFull, SlotOpen}
 use Rattle.board.specs.PlainBoard.{PlainBoard, accepted-board, after-begin, after-call, after-calls, after-end, after-post, after-service, bit, count-from, fault-if, first-fault, lane-standings, most-waiting, new-board, next-release, post-fault, refusal, standing-of, task-place}
+use Rattle.board.specs.Promise.{Always-runs, Lane-run}
 use Rattle.board.proofs.Places.{place-in-row, record-at-place}
 
 -- Every task of a list has some work, which fits into its limit and into its gap.
@@ -89,12 +90,6 @@ accepted-post b task none =
     let second = no-fault (b .slot-open) (SlotOpen (b .clock)) early (first .1) in
     let third = no-fault (ltb (b .clock) next) (Early next) full (second .1) in
     record { inside = leb-false (length (b .tasks)) task (first .0); due = ltb-false (b .clock) next (third .0) }
-
--- A lane between two slots, and the releases of the next slot, as far as they have come.
-pub record Lane-run (row : List TaskRecord) (clock : ℕ) (ss : List Standing) : Type 0 where
-  pub before : List Standing
-  pub reached : Reached row (record { clock = clock; standings = before })
-  pub released : Releases clock row before ss
 
 all-stay : (clock : ℕ) (row : List TaskRecord) (ss : List Standing) → length ss ≡ length row → Releases clock row ss ss
 all-stay clock [] [] e = no-more
@@ -236,3 +231,13 @@ module _ (tasks : List TaskRecord) (lanes : ℕ) (plan : List ℕ) (start : ℕ)
 pub run-after-calls : (lanes : ℕ) (b : PlainBoard) (calls : List Call) → Run lanes b → Run lanes (after-calls b calls)
 run-after-calls lanes b [] run = run
 run-after-calls lanes b (call ∷ calls) run = run-after-calls lanes (after-call b call) calls (run-after-call lanes b run call)
+
+module _ (tasks : List TaskRecord) (lanes : ℕ) (plan : List ℕ) (start : ℕ) where
+  -- At every point of every list of calls each lane is on some run.
+  pub always-runs :
+      Works-fit tasks → ((task : ℕ) → task < length tasks → lane-of plan task < lanes)
+      → (calls : List Call) → Always-runs (new-board tasks lanes plan start) calls
+  always-runs works on-lanes calls k h lane inside =
+      let new = new-board tasks lanes plan start in
+      let run = run-after-calls lanes new (take k calls) (run-from-new tasks lanes plan start works on-lanes) in
+      run .each lane (omega (arith, run .many))

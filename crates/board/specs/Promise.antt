@@ -5,20 +5,31 @@ use mathlib.Core.Logic.{_⊎_}
 use mathlib.Core.List.{List, [], _∷_}
 use Prim.Native.Nat.{ℕ, _+_, _<_, _≤_}
 use lib.ListN.{length, getD, take}
-use Rattle.board.specs.PlainBoard.{PlainBoard, after-call, after-calls, answers-to, bit, clock-end, new-board, refusal, served-task, standing-of}
+use Rattle.board.specs.PlainBoard.{PlainBoard, after-call, after-calls, answers-to, bit, clock-end, lane-standings, new-board, refusal, served-task, standing-of}
 use Rattle.board.specs.declared.call.Answer.{Answer}
 use Rattle.board.specs.declared.call.Answer.the-variants.{Refused}
 use Rattle.board.specs.declared.call.Call.{Call}
 use Rattle.board.specs.declared.call.Call.the-variants.{Clock, End, Post}
 use Rattle.board.specs.declared.fault.BoardFault.{BoardFault}
 use Rattle.board.specs.declared.fault.BoardFault.the-variants.{Plan, NoLane, NoTask, Early, QueueFull, SlotOpen, SlotShut, NotServed, ClockEnd}
-use Rattle.fit.specs.Lane.{Job}
-use Rattle.plan.specs.Placing.{Fails, Lanes-are-safe, Passes, Places, Settled, lane-of, record-of}
+use Rattle.fit.specs.Lane.{Job, Reached, Releases, Standing}
+use Rattle.plan.specs.Placing.{Fails, Lanes-are-safe, Passes, Places, Settled, lane-of, lane-row, record-of}
 use Rattle.std.specs.declared.option.Option.the-variants.{None, Some}
 use Rattle.std.specs.declared.result.Result.{Result}
 use Rattle.std.specs.declared.result.Result.the-variants.{Ok, Err}
 use Rattle.std.specs.shelf.Lists.{Has}
 use Rattle.tasks.specs.declared.record.TaskRecord.{TaskRecord}
+
+-- How the tasks of a row stand: some run of the plain lane is at this clock, between two slots, and of its tasks
+-- some have then released a job, as those that may do in a slot.
+pub record Lane-run (row : List TaskRecord) (clock : ℕ) (standings : List Standing) : Type 0 where
+  pub before : List Standing
+  pub reached : Reached row (record { clock = clock; standings = before })
+  pub released : Releases clock row before standings
+
+-- Every lane of the board is a plain lane with the plan's tasks in their order, and all have one clock.
+abbrev pub Lanes-run : PlainBoard → Type 0
+Lanes-run b = (lane : ℕ) → lane < length (b .lanes) → Lane-run (lane-row (b .tasks) (b .plan) lane) (b .clock) (lane-standings b lane)
 
 -- A job of the task waits on the board.
 abbrev pub Waits : PlainBoard → ℕ → Job → Type 0
@@ -55,6 +66,10 @@ Closed-rightly b call = (task : ℕ) (job : Job) → Closes b call task job → 
 -- The board after the first k calls of a list.
 abbrev pub board-at : PlainBoard → List Call → ℕ → PlainBoard
 board-at b calls k = after-calls b (take k calls)
+
+-- At every point of the list each lane is on some run of the plain lane.
+abbrev pub Always-runs : PlainBoard → List Call → Type 0
+Always-runs b calls = (k : ℕ) → k ≤ length calls → Lanes-run (board-at b calls k)
 
 -- Every job that is taken on the way waits from then on, until it closes.
 abbrev pub Always-taken : PlainBoard → List Call → Type 0

@@ -3,13 +3,18 @@ ghost use mathlib.Core.List.{List};
 ghost use Prim.Native.Nat.{ℕ, _<_};
 ghost use lib.ListN.{length};
 ghost use Rattle.board.specs.PlainBoard.{PlainBoard, after-calls, answers-to, new-board};
-ghost use Rattle.board.specs.Promise.{Always-on-time, Closed-rightly, Never-full, Plans-are-judged, Promise};
+ghost use Rattle.board.specs.Promise.{Always-on-time, Always-runs, Closed-rightly, Never-full, Plans-are-judged, Promise};
 ghost use Rattle.board.specs.declared.call.Call.{Call};
 ghost use Rattle.plan.specs.Placing.{Lanes-are-safe, Passes, lane-of};
 ghost use Rattle.std.specs.shelf.Lists.{All};
 ghost use Rattle.tasks.specs.Task.{Lawful};
 ghost use Rattle.tasks.specs.declared.record.TaskRecord.{TaskRecord};
 use fit::question::FitTest;
+
+// Whatever the calls, each lane of the board is on some run of the plain lane.
+pub fn every_lane_is_on_a_run()
+    ensures { λ _. ⌜ ((grid lanes : ℕ) (tasks : List TaskRecord) (plan : List ℕ) (start : ℕ) (calls : List Call) → All (Lawful grid) tasks → ((task : ℕ) → task < length tasks → lane-of plan task < lanes) → Always-runs (new-board tasks lanes plan start) calls) ⌝ }
+{}
 
 // On safe lanes no job is late at any point of any list of calls.
 pub fn no_job_is_late_on_safe_lanes()
