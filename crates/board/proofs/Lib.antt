@@ -1,4 +1,6 @@
+pub mod Bytes
 pub mod Closing
+pub mod FirstWaiting
 pub mod Judged
 pub mod Kept
 pub mod Lawful
