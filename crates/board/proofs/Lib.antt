@@ -9,3 +9,4 @@ pub mod OnTime
 pub mod Places
 pub mod Run
 pub mod Taken
+pub mod Told
