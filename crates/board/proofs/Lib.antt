@@ -1,4 +1,5 @@
 pub mod Bytes
+pub mod Calls
 pub mod Closing
 pub mod FirstWaiting
 pub mod Judged
