@@ -80,7 +80,7 @@ board-at b calls k = after-calls b (take k calls)
 abbrev pub Always-runs : PlainBoard → List Call → Type 0
 Always-runs b calls = (k : ℕ) → k ≤ length calls → Lanes-run (board-at b calls k)
 
--- Every job that is taken on the way waits from then on, until it closes.
+-- Every job that is taken on the way waits right after its post. From there it can only leave by closing.
 abbrev pub Always-taken : PlainBoard → List Call → Type 0
 Always-taken b calls = (k : ℕ) → k < length calls → Taken (board-at b calls k) (getD calls k Clock)
 
@@ -139,7 +139,7 @@ module _ (yes-to : List TaskRecord → TaskRecord → Type 0) (lanes : ℕ) (tas
     -- each call got the answer, or the number and place, that the plain board gives to the same list
     pub answered : answers ≡ answers-to (new-board tasks lanes plan start) calls
     pub board-left : left ≡ after-calls (new-board tasks lanes plan start) calls
-    -- a job taken waits until it closes
+    -- each job taken waits on the board after its post
     pub taken : Always-taken (new-board tasks lanes plan start) calls
     -- no job taken still waits once the clock has reached its release plus its limit
     pub on-time : Always-on-time (new-board tasks lanes plan start) calls
