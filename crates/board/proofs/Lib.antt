@@ -1,4 +1,5 @@
 pub mod Bytes
+pub mod Calls
 pub mod Closing
 pub mod FirstWaiting
 pub mod Judged
@@ -9,3 +10,4 @@ pub mod OnTime
 pub mod Places
 pub mod Run
 pub mod Taken
+pub mod Told
