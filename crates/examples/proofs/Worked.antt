@@ -48,6 +48,7 @@ worked-examples = record {
   shares-first = (refl, refl);
   shares-second = (refl, (λ h. let r = h .shares in omega arith));
   dear-lock = record { askable = record { short = omega arith; row-bounded = omega arith; asked-bounded = omega arith }; row-room = omega arith; asked-room = omega arith; below = inr (record { askable = record { short = omega arith; row-bounded = omega arith; asked-bounded = omega arith }; limit-in-gap = omega arith; enough-time = record { time = 5; from-one = omega arith; to-limit = omega arith; room = omega arith } }) };
+  dear-needed = refl;
   dear-lock-not-linear = λ h. let r = h .below .in-time in omega arith;
   quiet = (refl, refl, refl, refl);
   short-lock = (refl, refl, refl, refl);

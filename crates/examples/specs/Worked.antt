@@ -81,6 +81,7 @@ pub record Worked-examples : Type 0 where
   pub shares-second : (share 5 (task 3 20 5) + sumBy (share 5) (task 3 10 5 ∷ []) ≡ 6) × (Linear-yes 5 (task 3 10 5 ∷ []) (task 3 20 5) → ⊥)
   -- 9. Grid 60, cost 1 over either: lock under journal is yes, by exact only.
   pub dear-lock : Surcharge-yes 1 (Either-yes (Linear-yes 60) Exact-yes) (journal ∷ []) lock
+  pub dear-needed : needed 60 (raised 1 journal ∷ []) (raised 1 lock) ≡ 444
   pub dear-lock-not-linear : Surcharge-yes 1 (Linear-yes 60) (journal ∷ []) lock → ⊥
   -- 10. The three tasks on lane 0, all posted at 0, journal again at 5, none finishing early:
   -- the third task closes as the clock becomes 9.

@@ -1,4 +1,3 @@
-// The fit tests by example: the numbers on paper from their definitions, and tables of questions with their answers.
-pub mod paper;
+// The fit tests by example: tables of questions with their answers.
 #[cfg(test)]
 mod tables;
