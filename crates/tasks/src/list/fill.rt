@@ -85,7 +85,7 @@ impl TaskList {
     pub fn len(&self) -> usize
         ensures { λ r. ⌜ r ≡ length (tasks-of (now (self .entry))) ⌝ }
     {
-        self.table.records().len()
+        self.records().len()
     }
 
     // The tasks' numbers, in order.
