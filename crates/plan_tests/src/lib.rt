@@ -1,0 +1,3 @@
+// Placing and checking by example.
+#[cfg(test)]
+mod tables;
