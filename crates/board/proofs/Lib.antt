@@ -3,6 +3,6 @@ pub mod Standings
 pub mod Lanes
 pub mod Empty
 pub mod View
-pub mod Calls
-pub mod Bytes
+pub mod Refusals
+pub mod LaneBytes
 pub mod Service

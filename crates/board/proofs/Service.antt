@@ -25,8 +25,8 @@ use Rattle.board.specs.Steps.{next-on, served-by}
 use Rattle.board.specs.View.{board-of, lane-of-standings, numbers-on, standings-on, view}
 use Rattle.board.specs.declared.board.Board.{Board}
 use Rattle.board.specs.declared.seats.Seats.{Seats}
-use Rattle.board.proofs.Bytes.{byte-all, byte-from, byte-more, byte-none}
-use Rattle.board.proofs.Calls.{few-tasks, length-lanes, length-standings}
+use Rattle.board.proofs.LaneBytes.{byte-all, byte-from, byte-more, byte-none}
+use Rattle.board.proofs.Refusals.{few-tasks, length-lanes, length-standings}
 use Rattle.board.proofs.Lanes.{Distinct, all-aside, closes-first, distinct-kept, first-number, next-first, serve-first}
 use Rattle.board.proofs.View.{lane-stands, length-map-counted, map-counted, order-distinct}
 

@@ -7,7 +7,7 @@ use Rattle.std.proofs.shelf.Tests.{and-from, and-left, and-right}
 use Rattle.board.specs.PlainBoard.{bit, busy, fault-if, not-served}
 use Rattle.board.specs.View.{view}
 use Rattle.board.specs.declared.fault.BoardFault.the-variants.{NotServed}
-use Rattle.board.proofs.Calls.{fault-here, no-fault-here, no-fault-left}
+use Rattle.board.proofs.Refusals.{fault-here, no-fault-here, no-fault-left}
 use Rattle.board.proofs.board.Board.all_served.Needs as need
 use Rattle.board.proofs.board.Board.all_served.Needs.{else-bit-of·by·then-bit-of·else-not-is-busy, else-bit-of·by·else-bit-of}
 

@@ -6,8 +6,8 @@ use Prim.Native.Nat.{ℕ, _+_, _-_, _*_, _<_, _≤_}
 use native.Mathlib.Omega.{arith}
 use Rattle.board.specs.PlainBoard.{busy, byte-of, count-from}
 use Rattle.board.specs.View.{view}
-use Rattle.board.proofs.Bytes.{byte-all, byte-fits, byte-from, byte-more, byte-none}
-use Rattle.board.proofs.Calls.{length-lanes}
+use Rattle.board.proofs.LaneBytes.{byte-all, byte-fits, byte-from, byte-more, byte-none}
+use Rattle.board.proofs.Refusals.{length-lanes}
 use Rattle.board.proofs.board.Board.busy_lanes.Needs as need
 
 pub loop-lane-holds : need.loop-lane-holds

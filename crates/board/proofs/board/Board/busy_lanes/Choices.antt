@@ -3,7 +3,7 @@ use mathlib.Core.Path.{_≡_}
 use Prim.Native.Nat.{_≤_}
 use Rattle.board.specs.PlainBoard.{busy}
 use Rattle.board.specs.View.{view}
-use Rattle.board.proofs.Bytes.{byte-from}
+use Rattle.board.proofs.LaneBytes.{byte-from}
 use Rattle.board.proofs.board.Board.busy_lanes.Given as given
 
 abbrev pub Inv-loop-lane : given.InvT-loop-lane

@@ -3,7 +3,7 @@ use mathlib.Core.Path.{_≡_, ap, sym, _∙_}
 use mathlib.Core.Bool.{not}
 use Rattle.board.specs.declared.call.Answer.the-variants as answer
 use Rattle.board.specs.declared.fault.BoardFault.the-variants.{SlotShut}
-use Rattle.board.proofs.Calls.{passed}
+use Rattle.board.proofs.Refusals.{passed}
 use Rattle.board.proofs.Service.{closed-bits, ended}
 use Rattle.board.proofs.board.Board.end.Needs as need
 

@@ -11,7 +11,7 @@ use Rattle.board.specs.Queues.{stands-at}
 use Rattle.board.specs.Seating.{plan-of, tasks-on}
 use Rattle.board.specs.View.{board-of, standings-on, view}
 use Rattle.board.specs.declared.call.Answer.the-variants as answer
-use Rattle.board.proofs.Calls.{post-early, post-full, post-open, view-stands, view-with}
+use Rattle.board.proofs.Refusals.{post-early, post-full, post-open, view-stands, view-with}
 use Rattle.board.proofs.board.Board.post.Needs as need
 
 pub returns-then-self-next : need.returns-then-self-next

@@ -6,7 +6,7 @@ use native.Mathlib.Omega.{arith}
 use Rattle.board.specs.PlainBoard.{closes-at-end}
 use Rattle.board.specs.Serving.{Lane-served}
 use Rattle.board.specs.View.{view}
-use Rattle.board.proofs.Bytes.{byte-fits}
+use Rattle.board.proofs.LaneBytes.{byte-fits}
 use Rattle.board.proofs.Service.{Half-served, half-next}
 use Rattle.board.proofs.board.Board.serve_lanes.Needs as need
 

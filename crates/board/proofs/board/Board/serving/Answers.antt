@@ -12,7 +12,7 @@ use Rattle.board.specs.Seating.{plan-of, tasks-on}
 use Rattle.board.specs.View.{standings-on, view}
 use Rattle.board.specs.declared.call.Answer.the-variants as answer
 use Rattle.board.specs.declared.fault.BoardFault.the-variants.{NoLane, SlotShut}
-use Rattle.board.proofs.Calls.{applied, length-lanes, passed}
+use Rattle.board.proofs.Refusals.{applied, length-lanes, passed}
 use Rattle.board.proofs.View.{serves-is}
 use Rattle.board.proofs.board.Board.serving.Needs as need
 

@@ -9,7 +9,7 @@ use Rattle.board.specs.PlainBoard.{fault-if}
 use Rattle.board.specs.Seating.{tasks-on}
 use Rattle.board.specs.declared.call.Answer.the-variants as answer
 use Rattle.board.specs.declared.fault.BoardFault.the-variants.{NoTask}
-use Rattle.board.proofs.Calls.{view-stands}
+use Rattle.board.proofs.Refusals.{view-stands}
 use Rattle.board.proofs.board.Board.waiting.Needs as need
 
 pub returns : need.returns
