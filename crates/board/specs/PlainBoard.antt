@@ -1,5 +1,4 @@
 -- The plain board: the meaning of every answer. It is some plain lanes with one clock, and a mark whether a slot is open.
-use mathlib.Core.Path.{_≡_}
 use mathlib.Core.Bool.{Bool, true, false, cond, not, _&&_}
 use mathlib.Core.List.{List, [], _∷_, map}
 use Prim.Native.Nat.{ℕ, zero, suc, _+_, _*_, _/_, _%_, _^_}
@@ -27,7 +26,7 @@ pub record PlainBoard : Type 0 where
   -- for each lane, how its tasks stand, in the lane's order
   pub lanes : List (List Standing)
 
--- The numbers below n: 0, 1, and so on.
+-- So many numbers, from this one on.
 abbrev pub count-from : ℕ → ℕ → List ℕ
 count-from from zero = []
 count-from from (suc n) = from ∷ count-from (suc from) n
@@ -130,7 +129,7 @@ busy-byte b = byte-of (map (busy b) (count-from 0 (length (b .lanes))))
 abbrev pub after-begin : PlainBoard → PlainBoard
 after-begin b = record { tasks = b .tasks; plan = b .plan; clock = b .clock; slot-open = true; lanes = b .lanes }
 
--- End: bit k of the byte says that the job that lane k serves is finished. It is refused where a bit is set and no lane serves a job.
+-- End: bit k of the byte says that the job that lane k serves is finished. It is refused where a bit is set and its lane serves no job.
 abbrev pub not-served : PlainBoard → ℕ → ℕ → Option BoardFault
 not-served b finished k = fault-if (bit finished k && not (busy b k)) (NotServed k)
 

@@ -6,3 +6,4 @@ mod jobs;
 mod release;
 mod seats;
 mod task_queue;
+pub mod theorems;
