@@ -1,0 +1,3 @@
+// The board by example.
+#[cfg(test)]
+mod examples;
