@@ -128,7 +128,8 @@ module _ (yes-to : List TaskRecord → TaskRecord → Type 0) (lanes : ℕ) (tas
     pub passed-is-safe : (plan : List ℕ) → Passes yes-to lanes tasks plan → Lanes-are-safe lanes tasks plan
     -- what place places, the check passes;
     pub placed-passes : (plan : List ℕ) → Places yes-to lanes tasks plan → Passes yes-to lanes tasks plan
-    -- place, check and set up refuse exactly where one of their codes applies, with that code's number and place.
+    -- place, check and set up have at most one answer: one fault, with its number and place, or none. With their contracts,
+    -- by which they give such an answer, each refuses exactly where one of its codes applies.
     pub one-answer : Settled yes-to lanes tasks
     pub one-board-fault : (plan : List ℕ) (start : ℕ) (f f′ : BoardFault) → No-board plan start f → No-board plan start f′ → f ≡ f′
     pub no-fault-no-refusal : (plan : List ℕ) (start : ℕ) (f : BoardFault) → Passes yes-to lanes tasks plan → start ≤ clock-end → No-board plan start f → ⊥
