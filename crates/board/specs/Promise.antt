@@ -1,0 +1,134 @@
+-- What is promised of every list of calls to a new board.
+use mathlib.Core.Path.{_≡_}
+use mathlib.Core.Bool.{true}
+use mathlib.Core.Logic.{_⊎_}
+use mathlib.Core.List.{List, [], _∷_}
+use Prim.Native.Nat.{ℕ, _+_, _<_, _≤_}
+use lib.ListN.{length, getD, take}
+use Rattle.board.specs.PlainBoard.{PlainBoard, after-call, after-calls, answers-to, bit, clock-end, lane-standings, new-board, refusal, served-task, standing-of}
+use Rattle.board.specs.declared.call.Answer.{Answer}
+use Rattle.board.specs.declared.call.Answer.the-variants.{Refused}
+use Rattle.board.specs.declared.call.Call.{Call}
+use Rattle.board.specs.declared.call.Call.the-variants.{Clock, End, Post}
+use Rattle.board.specs.declared.fault.BoardFault.{BoardFault}
+use Rattle.board.specs.declared.fault.BoardFault.the-variants.{Plan, NoLane, NoTask, Early, QueueFull, SlotOpen, SlotShut, NotServed, ClockEnd}
+use Rattle.fit.specs.Lane.{Job, Reached, Releases, Standing}
+use Rattle.plan.specs.Placing.{Fails, Lanes-are-safe, Passes, Places, Settled, lane-of, lane-row, record-of}
+use Rattle.std.specs.declared.option.Option.the-variants.{None, Some}
+use Rattle.std.specs.declared.result.Result.{Result}
+use Rattle.std.specs.declared.result.Result.the-variants.{Ok, Err}
+use Rattle.std.specs.shelf.Lists.{Has}
+use Rattle.tasks.specs.declared.record.TaskRecord.{TaskRecord}
+
+-- How the tasks of a row stand: some run of the plain lane is at this clock, between two slots, and of its tasks
+-- some have then released a job, as those that may do in a slot.
+pub record Lane-run (row : List TaskRecord) (clock : ℕ) (standings : List Standing) : Type 0 where
+  pub before : List Standing
+  pub reached : Reached row (record { clock = clock; standings = before })
+  pub released : Releases clock row before standings
+
+-- Every lane of the board is a plain lane with the plan's tasks in their order, and all have one clock.
+abbrev pub Lanes-run : PlainBoard → Type 0
+Lanes-run b = (lane : ℕ) → lane < length (b .lanes) → Lane-run (lane-row (b .tasks) (b .plan) lane) (b .clock) (lane-standings b lane)
+
+-- A job of the task waits on the board.
+abbrev pub Waits : PlainBoard → ℕ → Job → Type 0
+Waits b task job = Has (standing-of b task .waiting) job
+
+-- A job that a post takes waits after it: released at the post's clock, and served no slot.
+abbrev pub Taken : PlainBoard → Call → Type 0
+Taken b call =
+    (task : ℕ) → call ≡ Post task → refusal b call ≡ None → Waits (after-call b call) task (record { release = b .clock; served = 0 })
+
+-- No job that waits has reached its release plus its limit.
+abbrev pub On-time : PlainBoard → Type 0
+On-time b = (task : ℕ) (job : Job) → task < length (b .tasks) → Waits b task job → b .clock < job .release + record-of (b .tasks) task .limit
+
+-- A job closes with a call: it waits before, and no job of its task with its release waits after.
+pub record Closes (b : PlainBoard) (call : Call) (task : ℕ) (job : Job) : Type 0 where
+  pub inside : task < length (b .tasks)
+  pub waits : Waits b task job
+  pub gone : (other : Job) → Waits (after-call b call) task other → other .release ≡ job .release → ⊥
+
+-- It closes rightly: at a slot's end, as the job that its lane serves, the earliest of the lane's first task that has one,
+-- and it said that it was finished or has now been served its whole work.
+pub record Rightly (b : PlainBoard) (call : Call) (task : ℕ) (job : Job) : Type 0 where
+  pub finished : ℕ
+  pub at-end : call ≡ End finished
+  pub served : served-task b (lane-of (b .plan) task) ≡ Some task
+  pub earliest : take 1 (standing-of b task .waiting) ≡ job ∷ []
+  pub done : (bit finished (lane-of (b .plan) task) ≡ true) ⊎ (record-of (b .tasks) task .work ≤ job .served + 1)
+
+-- Every job that closes with the call does so rightly.
+abbrev pub Closed-rightly : PlainBoard → Call → Type 0
+Closed-rightly b call = (task : ℕ) (job : Job) → Closes b call task job → Rightly b call task job
+
+-- The board after the first k calls of a list.
+abbrev pub board-at : PlainBoard → List Call → ℕ → PlainBoard
+board-at b calls k = after-calls b (take k calls)
+
+-- At every point of the list each lane is on some run of the plain lane.
+abbrev pub Always-runs : PlainBoard → List Call → Type 0
+Always-runs b calls = (k : ℕ) → k ≤ length calls → Lanes-run (board-at b calls k)
+
+-- Every job that is taken on the way waits from then on, until it closes.
+abbrev pub Always-taken : PlainBoard → List Call → Type 0
+Always-taken b calls = (k : ℕ) → k < length calls → Taken (board-at b calls k) (getD calls k Clock)
+
+-- At no point of the list does a job wait that has reached its release plus its limit.
+abbrev pub Always-on-time : PlainBoard → List Call → Type 0
+Always-on-time b calls = (k : ℕ) → k ≤ length calls → On-time (board-at b calls k)
+
+-- Every job that closes on the way does so rightly.
+abbrev pub Always-closed-rightly : PlainBoard → List Call → Type 0
+Always-closed-rightly b calls = (k : ℕ) → k < length calls → Closed-rightly (board-at b calls k) (getD calls k Clock)
+
+-- No answer refuses a job because as many of its task wait as may.
+abbrev pub Never-full : List Answer → Type 0
+Never-full answers = (task : ℕ) → Has answers (Refused (QueueFull task)) → ⊥
+
+-- Below, `yes-to` is the fit test's set of questions with a yes, and the list has these tasks on so many lanes.
+module _ (yes-to : List TaskRecord → TaskRecord → Type 0) (lanes : ℕ) (tasks : List TaskRecord) where
+  -- Why no board is set up from the plan at this clock. The check comes first.
+  abbrev pub No-board : List ℕ → ℕ → BoardFault → Type 0
+  No-board plan start (Plan fault) = Fails yes-to lanes tasks plan fault
+  No-board plan start (ClockEnd clock) = Passes yes-to lanes tasks plan × (clock-end < start) × (clock ≡ start)
+  No-board plan start (NoLane lane) = ⊥
+  No-board plan start (NoTask task) = ⊥
+  No-board plan start (Early clock) = ⊥
+  No-board plan start (QueueFull task) = ⊥
+  No-board plan start (SlotOpen clock) = ⊥
+  No-board plan start (SlotShut clock) = ⊥
+  No-board plan start (NotServed bit) = ⊥
+
+  -- What set up answers and leaves: a new board, or the old one as it was.
+  abbrev pub Set-up : List ℕ → ℕ → PlainBoard → Result (Unit {0}) BoardFault → PlainBoard → Type 0
+  Set-up plan start before (Ok _) after =
+      Passes yes-to lanes tasks plan × (start ≤ clock-end) × (after ≡ new-board tasks lanes plan start)
+  Set-up plan start before (Err fault) after = No-board plan start fault × (after ≡ before)
+
+  -- What holds of every plan for these tasks, whoever made it, and whatever keeps the law of fit tests:
+  pub record Plans-are-judged : Type 0 where
+    -- on a plan that passes the check no run on any lane has a late job;
+    pub passed-is-safe : (plan : List ℕ) → Passes yes-to lanes tasks plan → Lanes-are-safe lanes tasks plan
+    -- what place places, the check passes;
+    pub placed-passes : (plan : List ℕ) → Places yes-to lanes tasks plan → Passes yes-to lanes tasks plan
+    -- place, check and set up refuse exactly where one of their codes applies, with that code's number and place.
+    pub one-answer : Settled yes-to lanes tasks
+    pub one-board-fault : (plan : List ℕ) (start : ℕ) (f f′ : BoardFault) → No-board plan start f → No-board plan start f′ → f ≡ f′
+    pub no-fault-no-refusal : (plan : List ℕ) (start : ℕ) (f : BoardFault) → Passes yes-to lanes tasks plan → start ≤ clock-end → No-board plan start f → ⊥
+
+  -- The whole promise, for a board that was set up from the plan at this clock and given these calls.
+  pub record Promise (plan : List ℕ) (start : ℕ) (calls : List Call) (answers : List Answer) (left : PlainBoard) : Type 0 where
+    -- the check passed the plan, and no run on any of its lanes has a late job
+    pub passed : Passes yes-to lanes tasks plan
+    pub safe : Lanes-are-safe lanes tasks plan
+    -- each call got the answer, or the number and place, that the plain board gives to the same list
+    pub answered : answers ≡ answers-to (new-board tasks lanes plan start) calls
+    pub board-left : left ≡ after-calls (new-board tasks lanes plan start) calls
+    -- a job taken waits until it closes
+    pub taken : Always-taken (new-board tasks lanes plan start) calls
+    -- no job taken still waits once the clock has reached its release plus its limit
+    pub on-time : Always-on-time (new-board tasks lanes plan start) calls
+    -- each closed job had said that it was finished or had been served its whole work
+    pub closed-rightly : Always-closed-rightly (new-board tasks lanes plan start) calls
