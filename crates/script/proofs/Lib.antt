@@ -1,0 +1,4 @@
+pub mod Headed
+pub mod Joined
+pub mod Sessions
+pub mod Tests

@@ -1,0 +1,4 @@
+pub mod Calls
+pub mod Headings
+pub mod Opening
+pub mod Texts
