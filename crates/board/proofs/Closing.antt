@@ -20,6 +20,7 @@ use Rattle.board.specs.declared.call.Call.{Call}
 use Rattle.board.specs.declared.call.Call.the-variants.{Post, Begin, End, Serving, Waiting, Clock}
 use Rattle.board.specs.PlainBoard.{PlainBoard, accepted-board, after-end, after-post, after-service, bit, first-waiting, lane-numbers, lane-standings, standing-of, task-place}
 use Rattle.board.specs.Promise.{Always-closed-rightly, Closed-rightly, Rightly, Waits, board-at}
+use Rattle.board.proofs.FirstWaiting.{one-on}
 use Rattle.board.proofs.Places.{number-at-place, record-at-place}
 use Rattle.board.proofs.Run.{after-call-ways, counted-at}
 
@@ -60,10 +61,6 @@ served-here said t row last j rest ss job (suc k) l at gone =
       | true ↦ λ g. g job (k, omega arith, at) refl
       | false ↦ λ g. g job (suc k, omega arith, at) refl
     ] gone)
-
-abbrev one-on : Option ℕ → Option ℕ
-one-on None = None
-one-on (Some place) = Some (suc place)
 
 -- The first task of the row, with these jobs, and those after it.
 served-from :

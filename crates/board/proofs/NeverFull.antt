@@ -23,6 +23,7 @@ use Rattle.board.specs.declared.fault.BoardFault.{BoardFault}
 use Rattle.board.specs.declared.fault.BoardFault.the-variants.{Plan, NoLane, NoTask, Early, QueueFull, SlotOpen, SlotShut, NotServed, ClockEnd}
 use Rattle.board.specs.PlainBoard.{PlainBoard, accepted-answer, after-call, answer-to, answers-to, busy, bit, clock-end, count-from, fault-if, first-fault, most-waiting, new-board, next-release, not-served, refusal, standing-of, task-place}
 use Rattle.board.specs.Promise.{Never-full}
+use Rattle.board.proofs.Calls.{answer-by}
 use Rattle.board.proofs.Places.{record-at-place}
 use Rattle.board.proofs.Run.{Run, Works-fit, kept-after-calls, may-release, run-after-call, run-from-new}
 
@@ -91,9 +92,6 @@ fourth-never false true a₃ a₄ f₁ f₂ f₃ f₄ n₁ n₂ n₃ h = n₂
 fourth-never false false true a₄ f₁ f₂ f₃ f₄ n₁ n₂ n₃ h = n₃
 fourth-never false false false a₄ f₁ f₂ f₃ f₄ n₁ n₂ n₃ h =
     subst (λ (a : Bool). If-any (first-fault (fault-if a f₄ ∷ []))) (sym (h refl refl)) tt
-
-abbrev answer-by : PlainBoard → Call → Option BoardFault → Answer
-answer-by b call r = elim r [ None ↦ accepted-answer b call | Some fault ↦ Refused fault ]
 
 accepted-not-full : (b : PlainBoard) (call : Call) → If-refused (accepted-answer b call)
 accepted-not-full b (Post task) = tt

@@ -69,7 +69,13 @@ abbrev Is-none : Option BoardFault → Type 0
 Is-none None = Unit {0}
 Is-none (Some fault) = ⊥
 
--- Where no fault applies, the first does not, and none of the others.
+-- Where no fault is the first, none is.
+pub first-none :
+    (o : Option BoardFault) (faults : List (Option BoardFault)) → first-fault (o ∷ faults) ≡ None
+    → (o ≡ None) × (first-fault faults ≡ None)
+first-none None faults e = (refl, e)
+first-none (Some fault) faults e = absurd (subst Is-none (sym e) tt)
+
 pub no-fault :
     (applies : Bool) (fault : BoardFault) (faults : List (Option BoardFault))
     → first-fault (fault-if applies fault ∷ faults) ≡ None → (applies ≡ false) × (first-fault faults ≡ None)

@@ -1,3 +1,10 @@
+pub mod Calls
 pub mod Codes
 pub mod PlainBoard
 pub mod Promise
+pub mod Queues
+pub mod Releases
+pub mod Seating
+pub mod Serving
+pub mod Steps
+pub mod View

@@ -1,5 +1,4 @@
 -- The plain board: the meaning of every answer. It is some plain lanes with one clock, and a mark whether a slot is open.
-use mathlib.Core.Path.{_≡_}
 use mathlib.Core.Bool.{Bool, true, false, cond, not, _&&_}
 use mathlib.Core.List.{List, [], _∷_, map}
 use Prim.Native.Nat.{ℕ, zero, suc, _+_, _*_, _/_, _%_, _^_}

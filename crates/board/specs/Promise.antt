@@ -1,11 +1,11 @@
 -- What is promised of every list of calls to a new board.
 use mathlib.Core.Path.{_≡_}
-use mathlib.Core.Bool.{true}
+use mathlib.Core.Bool.{true, cond}
 use mathlib.Core.Logic.{_⊎_}
 use mathlib.Core.List.{List, [], _∷_}
 use Prim.Native.Nat.{ℕ, _+_, _<_, _≤_}
 use lib.ListN.{length, getD, take}
-use Rattle.board.specs.PlainBoard.{PlainBoard, after-call, after-calls, answers-to, bit, clock-end, lane-standings, new-board, refusal, served-task, standing-of}
+use Rattle.board.specs.PlainBoard.{PlainBoard, after-call, after-calls, after-end, answers-to, bit, clock-end, closed-byte, lane-standings, new-board, refusal, served-task, standing-of}
 use Rattle.board.specs.declared.call.Answer.{Answer}
 use Rattle.board.specs.declared.call.Answer.the-variants.{Refused}
 use Rattle.board.specs.declared.call.Call.{Call}
@@ -17,7 +17,7 @@ use Rattle.plan.specs.Placing.{Fails, Lanes-are-safe, Passes, Places, Settled, 
 use Rattle.std.specs.declared.option.Option.the-variants.{None, Some}
 use Rattle.std.specs.declared.result.Result.{Result}
 use Rattle.std.specs.declared.result.Result.the-variants.{Ok, Err}
-use Rattle.std.specs.shelf.Lists.{Has}
+use Rattle.std.specs.shelf.Lists.{Has, sumBy}
 use Rattle.tasks.specs.declared.record.TaskRecord.{TaskRecord}
 
 -- How the tasks of a row stand: some run of the plain lane is at this clock, between two slots, and of its tasks
@@ -63,6 +63,15 @@ pub record Rightly (b : PlainBoard) (call : Call) (task : ℕ) (job : Job) : Typ
 abbrev pub Closed-rightly : PlainBoard → Call → Type 0
 Closed-rightly b call = (task : ℕ) (job : Job) → Closes b call task job → Rightly b call task job
 
+-- How many jobs wait on a lane.
+abbrev pub jobs-on : PlainBoard → ℕ → ℕ
+jobs-on b lane = sumBy (λ (s : Standing). length (s .waiting)) (lane-standings b lane)
+
+-- A slot's end takes one job from each lane whose bit is set in its answer, and none from the others.
+abbrev pub Closings-are-told : PlainBoard → ℕ → Type 0
+Closings-are-told b finished =
+    (lane : ℕ) → lane < length (b .lanes) → jobs-on (after-end b finished) lane + cond (bit (closed-byte b finished) lane) 1 0 ≡ jobs-on b lane
+
 -- The board after the first k calls of a list.
 abbrev pub board-at : PlainBoard → List Call → ℕ → PlainBoard
 board-at b calls k = after-calls b (take k calls)
@@ -71,7 +80,7 @@ board-at b calls k = after-calls b (take k calls)
 abbrev pub Always-runs : PlainBoard → List Call → Type 0
 Always-runs b calls = (k : ℕ) → k ≤ length calls → Lanes-run (board-at b calls k)
 
--- Every job that is taken on the way waits from then on, until it closes.
+-- Every job that is taken on the way waits right after its post. From there it can only leave by closing.
 abbrev pub Always-taken : PlainBoard → List Call → Type 0
 Always-taken b calls = (k : ℕ) → k < length calls → Taken (board-at b calls k) (getD calls k Clock)
 
@@ -82,6 +91,10 @@ Always-on-time b calls = (k : ℕ) → k ≤ length calls → On-time (board-at 
 -- Every job that closes on the way does so rightly.
 abbrev pub Always-closed-rightly : PlainBoard → List Call → Type 0
 Always-closed-rightly b calls = (k : ℕ) → k < length calls → Closed-rightly (board-at b calls k) (getD calls k Clock)
+
+-- At every point of the list a slot's end would tell which lanes it takes a job from.
+abbrev pub Always-told : PlainBoard → List Call → Type 0
+Always-told b calls = (k finished : ℕ) → k ≤ length calls → Closings-are-told (board-at b calls k) finished
 
 -- No answer refuses a job because as many of its task wait as may.
 abbrev pub Never-full : List Answer → Type 0
@@ -126,7 +139,7 @@ module _ (yes-to : List TaskRecord → TaskRecord → Type 0) (lanes : ℕ) (tas
     -- each call got the answer, or the number and place, that the plain board gives to the same list
     pub answered : answers ≡ answers-to (new-board tasks lanes plan start) calls
     pub board-left : left ≡ after-calls (new-board tasks lanes plan start) calls
-    -- a job taken waits until it closes
+    -- each job taken waits on the board after its post
     pub taken : Always-taken (new-board tasks lanes plan start) calls
     -- no job taken still waits once the clock has reached its release plus its limit
     pub on-time : Always-on-time (new-board tasks lanes plan start) calls

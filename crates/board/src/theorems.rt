@@ -3,7 +3,7 @@ ghost use mathlib.Core.List.{List};
 ghost use Prim.Native.Nat.{ℕ, _<_};
 ghost use lib.ListN.{length};
 ghost use Rattle.board.specs.PlainBoard.{PlainBoard, after-calls, answers-to, new-board};
-ghost use Rattle.board.specs.Promise.{Always-on-time, Always-runs, Closed-rightly, Never-full, Plans-are-judged, Promise};
+ghost use Rattle.board.specs.Promise.{Always-on-time, Always-runs, Always-told, Closed-rightly, Never-full, Plans-are-judged, Promise};
 ghost use Rattle.board.specs.declared.call.Call.{Call};
 ghost use Rattle.plan.specs.Placing.{Lanes-are-safe, Passes, lane-of};
 ghost use Rattle.std.specs.shelf.Lists.{All};
@@ -24,6 +24,11 @@ pub fn no_job_is_late_on_safe_lanes()
 // On safe lanes a task has room for every job that it may release.
 pub fn no_post_is_one_too_many_on_safe_lanes()
     ensures { λ _. ⌜ ((grid lanes : ℕ) (tasks : List TaskRecord) (plan : List ℕ) (start : ℕ) (calls : List Call) → All (Lawful grid) tasks → ((task : ℕ) → task < length tasks → lane-of plan task < lanes) → Lanes-are-safe lanes tasks plan → Never-full (answers-to (new-board tasks lanes plan start) calls)) ⌝ }
+{}
+
+// Whatever the calls, a slot's end takes one job from each lane whose bit it answers, and none from the others.
+pub fn each_closed_bit_is_one_job_less()
+    ensures { λ _. ⌜ ((grid lanes : ℕ) (tasks : List TaskRecord) (plan : List ℕ) (start : ℕ) (calls : List Call) → All (Lawful grid) tasks → ((task : ℕ) → task < length tasks → lane-of plan task < lanes) → Always-told (new-board tasks lanes plan start) calls) ⌝ }
 {}
 
 // On any board, whichever the call, a job that closes does so rightly.
