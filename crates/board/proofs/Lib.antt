@@ -2,6 +2,7 @@ pub mod Bytes
 pub mod Calls
 pub mod Closing
 pub mod Empty
+pub mod Filling
 pub mod FirstWaiting
 pub mod Judged
 pub mod Kept
@@ -11,6 +12,7 @@ pub mod Lawful
 pub mod NeverFull
 pub mod OnTime
 pub mod Places
+pub mod Preparing
 pub mod Queue
 pub mod Refusals
 pub mod Run

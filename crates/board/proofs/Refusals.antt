@@ -13,14 +13,11 @@ use Rattle.std.proofs.shelf.Tests.{le-leb, le-ltb, lt-leb, lt-ltb}
 use Rattle.fit.specs.Lane.{Standing}
 use Rattle.plan.specs.Placing.{lane-of, record-of}
 use Rattle.plan.proofs.Awaiting.{length-tasks}
-use Rattle.board.specs.PlainBoard.{PlainBoard, accepted-answer, accepted-board, after-call, answer-to, count-from, fault-if, first-fault, most-waiting, next-release, post-fault, refusal, standing-of, with-standing}
+use Rattle.board.specs.PlainBoard.{PlainBoard, count-from, fault-if, first-fault, most-waiting, next-release, post-fault, standing-of, with-standing}
 use Rattle.board.specs.Queues.{standing, stands-at}
 use Rattle.board.specs.Seating.{plan-of, tasks-on}
 use Rattle.board.specs.View.{board-of, lane-of-standings, standings-on, view}
 use Rattle.board.specs.declared.board.Board.{Board}
-use Rattle.board.specs.declared.call.Answer.{Answer}
-use Rattle.board.specs.declared.call.Answer.the-variants as answer
-use Rattle.board.specs.declared.call.Call.{Call}
 use Rattle.board.specs.declared.fault.BoardFault.{BoardFault}
 use Rattle.board.specs.declared.fault.BoardFault.the-variants.{Early, NoTask, QueueFull, SlotOpen}
 use Rattle.board.proofs.View.{length-map-counted, map-counted, stands-is, with-standing-is}
@@ -114,17 +111,3 @@ module _ (F : ℕ → Option BoardFault) (n : ℕ) where
 
   pub no-fault-left : (k : ℕ) → n ≤ k → first-fault (drop k all-faults) ≡ None
   no-fault-left k h = at-drop-all first-fault all-faults k (omega (arith, length-map-counted F n))
-
--- An accepted or a refused call is what the plain board gives.
-module _ (before : PlainBoard) (call : Call) (after : PlainBoard) where
-  pub accepted : {said : Answer} → refusal before call ≡ None → said ≡ accepted-answer before call → after ≡ accepted-board before call → (said ≡ answer-to before call) × (after ≡ after-call before call)
-  accepted none said left = (
-    said ∙ ap (λ (o : Option BoardFault). elim o [ None ↦ accepted-answer before call | Some fault ↦ answer.Refused fault ]) (sym none),
-    left ∙ ap (λ (o : Option BoardFault). elim o [ None ↦ accepted-board before call | Some fault ↦ before ]) (sym none),
-  )
-
-  pub refused : {fault : BoardFault} → refusal before call ≡ Some fault → after ≡ before → (answer.Refused fault ≡ answer-to before call) × (after ≡ after-call before call)
-  refused some left = (
-    ap (λ (o : Option BoardFault). elim o [ None ↦ accepted-answer before call | Some fault ↦ answer.Refused fault ]) (sym some),
-    left ∙ ap (λ (o : Option BoardFault). elim o [ None ↦ accepted-board before call | Some fault ↦ before ]) (sym some),
-  )

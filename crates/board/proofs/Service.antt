@@ -95,26 +95,6 @@ module _ (before : Board) (finished : ℕ) where
   abbrev P : List ℕ
   P = plan-of (before .seats)
 
-  pub half-start : (lane : ℕ) → lane ≡ lanes → Half-served before finished lane 0 before
-  half-start lane e =
-      record {
-        low = omega arith;
-        same = record { seats = refl; clock = refl; slot = refl };
-        done = λ k h l. absurd (omega arith);
-        to-do = λ k h. refl;
-        bits = sym (ap (byte-from (closes-at-end (view before) finished) lanes) e ∙ byte-none (closes-at-end (view before) finished) lanes);
-      }
-
-  pub half-all : (byte : ℕ) (after : Board) (lane : ℕ) → lane ≡ 0 → Half-served before finished lane byte after → Lanes-served before finished byte after
-  half-all byte after lane e h =
-      record {
-        same = h .same;
-        stands = λ k l. h .done k (omega arith) l;
-        closes =
-            h .bits
-            ∙ (ap (byte-from (closes-at-end (view before) finished) lanes) e ∙ byte-all (closes-at-end (view before) finished) lanes);
-      }
-
   module _ (lane byte : ℕ) (now : Board) (half : Half-served before finished lane byte now) (some : 0 < lane)
       (closed : Bool) (after : Board) (served : Lane-served now (lane - 1) (bit finished (lane - 1)) closed after) where
     abbrev low : ℕ

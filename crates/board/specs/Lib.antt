@@ -1,6 +1,8 @@
 pub mod Calls
 pub mod Codes
+pub mod Entries
 pub mod PlainBoard
+pub mod Preparing
 pub mod Promise
 pub mod Queues
 pub mod Releases

@@ -5,11 +5,13 @@ use mathlib.Core.Logic.{_⊎_}
 use mathlib.Core.List.{List, [], _∷_}
 use Prim.Native.Nat.{ℕ, _+_, _<_, _≤_}
 use lib.ListN.{length, getD, take}
+use Rattle.board.specs.Entries.{calls-of, with-answers}
 use Rattle.board.specs.PlainBoard.{PlainBoard, after-call, after-calls, after-end, answers-to, bit, clock-end, closed-byte, lane-standings, new-board, refusal, served-task, standing-of}
 use Rattle.board.specs.declared.call.Answer.{Answer}
 use Rattle.board.specs.declared.call.Answer.the-variants.{Refused}
 use Rattle.board.specs.declared.call.Call.{Call}
 use Rattle.board.specs.declared.call.Call.the-variants.{Clock, End, Post}
+use Rattle.board.specs.declared.call.Entry.{Entry}
 use Rattle.board.specs.declared.fault.BoardFault.{BoardFault}
 use Rattle.board.specs.declared.fault.BoardFault.the-variants.{Plan, NoLane, NoTask, Early, QueueFull, SlotOpen, SlotShut, NotServed, ClockEnd}
 use Rattle.fit.specs.Lane.{Job, Reached, Releases, Standing}
@@ -145,3 +147,18 @@ module _ (yes-to : List TaskRecord → TaskRecord → Type 0) (lanes : ℕ) (tas
     pub on-time : Always-on-time (new-board tasks lanes plan start) calls
     -- each closed job had said that it was finished or had been served its whole work
     pub closed-rightly : Always-closed-rightly (new-board tasks lanes plan start) calls
+
+  -- What performing the calls of some entries answers and leaves: the promise, with each call's answer in its entry;
+  -- or why no board is set up, and everything as it was.
+  abbrev pub Came-out : List ℕ → ℕ → PlainBoard → List Entry → Result (Unit {0}) BoardFault → PlainBoard → List Entry → Type 0
+  Came-out plan start before entries (Ok _) after filled =
+      (answers : List Answer) × Promise plan start (calls-of entries) answers after × (filled ≡ with-answers entries answers)
+  Came-out plan start before entries (Err fault) after filled =
+      No-board plan start fault × (after ≡ before) × (filled ≡ entries)
+
+  -- The whole promise of the call that performs a list of calls.
+  pub record Performed (plan : List ℕ) (start : ℕ) (before : PlainBoard) (entries : List Entry)
+      (result : Result (Unit {0}) BoardFault) (after : PlainBoard) (filled : List Entry) : Type 0 where
+    -- what holds of every plan for these tasks
+    pub judged : Plans-are-judged
+    pub came-out : Came-out plan start before entries result after filled

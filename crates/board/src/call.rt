@@ -36,3 +36,10 @@ pub enum Answer {
     // The call was refused, and nothing changed.
     Refused(BoardFault),
 }
+
+// A call, and the place for its answer.
+#[derive(Clone, Copy)]
+pub struct Entry {
+    pub call: Call,
+    pub answer: Option<Answer>,
+}

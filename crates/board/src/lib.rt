@@ -3,6 +3,8 @@ pub mod board;
 pub mod call;
 pub mod fault;
 mod jobs;
+pub mod perform;
+pub mod prepare;
 mod release;
 mod seats;
 mod task_queue;
