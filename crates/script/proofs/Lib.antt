@@ -1,3 +1,4 @@
+pub mod Days
 pub mod Headed
 pub mod Joined
 pub mod Sessions

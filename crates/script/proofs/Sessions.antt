@@ -1,5 +1,5 @@
 -- The calls that lines say, one line after the other, and the lines with their answers.
-use mathlib.Core.Path.{_≡_, sym, ap, subst, _∙_}
+use mathlib.Core.Path.{_≡_, refl, sym, ap, subst, _∙_}
 use mathlib.Core.Bool.{Bool, true, false}
 use mathlib.Core.List.{List, [], _∷_, _++_, append-assoc, append-nil}
 use Prim.Native.Nat.{ℕ, suc, _+_, _<_}
@@ -7,11 +7,14 @@ use native.Mathlib.Omega.{arith}
 use lib.ListN.{drop, getD, length}
 use lib.Seq.{drop-cons}
 use Rattle.board.specs.declared.call.Answer.{Answer}
-use Rattle.board.specs.declared.call.Answer.the-variants.{Posted}
+use Rattle.board.specs.Entries.{with-answers}
 use Rattle.board.specs.declared.call.Call.{Call}
+use Rattle.board.specs.declared.call.Call.the-variants.{Post}
+use Rattle.board.specs.declared.call.Entry.{Entry}
 use Rattle.script.specs.Calls.{Calls-said, Says-call, Says-none}
 use Rattle.script.specs.Calls.Calls-said.{all-said, goes-on, stops}
-use Rattle.script.specs.Texts.{answer-line, answer-lines}
+use Rattle.script.specs.Texts.{answer-line, answer-lines, given-first, given-in}
+use Rattle.std.specs.declared.option.Option.the-variants.{None, Some}
 
 -- of all lines these are left, after these calls
 abbrev pub Said-so-far : List (List ℕ) → List (List ℕ) → List Call → Type 0
@@ -39,10 +42,29 @@ no-lines text left (answer ∷ answers) left-is = sym (ap (λ ls. text ++ answer
 pub no-answers : (text : List ℕ) (left : List (List ℕ)) (answers : List Answer) → answers ≡ [] → text ≡ text ++ answer-lines left answers
 no-answers text left answers none = sym (ap (λ given. text ++ answer-lines left given) none ∙ append-nil text)
 
-pub next-answer : (answers : List Answer) (k : ℕ) → k < length answers → drop k answers ≡ getD answers k (Posted 0) ∷ drop (k + 1) answers
-next-answer answers k inside =
+-- what stands past the last entry
+abbrev pub no-entry : Entry
+no-entry = record { call = Post 0; answer = None }
+
+-- the next entry has an answer, or none
+pub given-some : (entries : List Entry) (k : ℕ) (answer : Answer) → k < length entries → getD entries k no-entry .answer ≡ Some answer
+    → given-in (drop k entries) ≡ answer ∷ given-in (drop (k + 1) entries)
+given-some entries k answer inside is =
     let next : suc k ≡ k + 1 = omega arith in
-    drop-cons answers k (Posted 0) inside ∙ ap (λ n. getD answers k (Posted 0) ∷ drop n answers) next
+    ap given-in (drop-cons entries k no-entry inside)
+    ∙ ap (λ o. given-first o (given-in (drop (suc k) entries))) is
+    ∙ ap (λ n. answer ∷ given-in (drop n entries)) next
+
+pub given-none : (entries : List Entry) (k : ℕ) → k < length entries → getD entries k no-entry .answer ≡ None → given-in (drop k entries) ≡ []
+given-none entries k inside is =
+    ap given-in (drop-cons entries k no-entry inside) ∙ ap (λ o. given-first o (given-in (drop (suc k) entries))) is
+
+-- filled entries give back their answers
+pub given-back : (entries : List Entry) (answers : List Answer) → length answers ≡ length entries → given-in (with-answers entries answers) ≡ answers
+given-back [] [] long = refl
+given-back [] (answer ∷ answers) long = absurd (omega arith)
+given-back (entry ∷ entries) [] long = absurd (omega arith)
+given-back (entry ∷ entries) (answer ∷ answers) long = ap (λ given. answer ∷ given) (given-back entries answers (omega arith))
 
 -- one more line with its answer
 pub one-more-line : (text grown : List ℕ) (left after : List (List ℕ)) (line : List ℕ) (answers later : List Answer) (answer : Answer)

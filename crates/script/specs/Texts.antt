@@ -6,7 +6,9 @@ use lib.Chars.{codes}
 use Rattle.board.specs.Codes.{number, place}
 use Rattle.board.specs.declared.call.Answer.{Answer}
 use Rattle.board.specs.declared.call.Answer.the-variants.{Posted, Begun, Ended, Serving, Waiting, Clock, Refused}
+use Rattle.board.specs.declared.call.Entry.{Entry}
 use Rattle.std.specs.Written.{decimal}
+use Rattle.std.specs.declared.option.Option.{Option}
 use Rattle.std.specs.declared.option.Option.the-variants.{None, Some}
 
 -- A fault: its number and its place.
@@ -43,3 +45,12 @@ abbrev pub answer-lines : List (List ℕ) → List Answer → List ℕ
 answer-lines lines [] = []
 answer-lines [] (answer ∷ answers) = []
 answer-lines (line ∷ lines) (answer ∷ answers) = answer-line line answer ++ answer-lines lines answers
+
+-- The answers of some entries, up to the first entry that has none.
+abbrev pub given-first : Option Answer → List Answer → List Answer
+given-first None answers = []
+given-first (Some answer) answers = answer ∷ answers
+
+abbrev pub given-in : List Entry → List Answer
+given-in [] = []
+given-in (entry ∷ entries) = given-first (entry .answer) (given-in entries)
