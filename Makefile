@@ -1,9 +1,10 @@
 .PHONY: run test
 
-# Proves and builds `lanes` and runs it on the example sheet.
+# Proves and builds the programs and runs each on its example.
 run:
-	rt check lanes
+	rt check lanes replay
 	target/bin/lanes < examples/office.sheet
+	target/bin/replay < examples/day.replay
 
 # The gate.
 test:

@@ -1,0 +1,5 @@
+pub mod Days
+pub mod Headed
+pub mod Joined
+pub mod Sessions
+pub mod Tests

@@ -1,0 +1,4 @@
+pub mod Feeds
+pub mod Pairs
+pub mod Values
+pub mod Worded
