@@ -5,8 +5,8 @@ use reference::place::{place_in_fractions, place_linear};
 use std::process::exit;
 
 const SEED: u64 = 20_061_107;
-const RANDOM_LAWFUL: usize = 60_000;
-const RANDOM_DAMAGED: usize = 60_000;
+const RANDOM_LAWFUL: usize = 250_000;
+const RANDOM_DAMAGED: usize = 250_000;
 const FEWEST_SHEETS: usize = 100_000;
 
 unsafe extern "C" {
