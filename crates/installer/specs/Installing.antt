@@ -48,3 +48,9 @@ Answered sheet before (Err fault) after = No-plan sheet before fault × (after �
 pub data Installed (sheet before : List ℕ) : ℕ → List ℕ → Type 0 where
   placed : {after : List ℕ} → Placed-list sheet before after → Installed sheet before 0 after
   refused : (fault : PlanFault) → No-plan sheet before fault → Installed sheet before (number fault) before
+
+-- The call has one answer: at most one number, and one content of the buffer.
+abbrev pub Call-settled : Type 0
+Call-settled =
+    (sheet before : List ℕ) (code code′ : ℕ) (after after′ : List ℕ) → Installed sheet before code after → Installed sheet before code′ after′
+    → (code ≡ code′) × (after ≡ after′)

@@ -1,5 +1,5 @@
 // The installer's call: a sheet and plan bytes in, 0 or a bare number out.
-ghost use Rattle.installer.specs.Installing.{Answered, Installed};
+ghost use Rattle.installer.specs.Installing.{Answered, Call-settled, Installed};
 use fit::linear::Linear;
 use fit::linear::LinearFit;
 use plan::fault::PlanFault;
@@ -35,3 +35,8 @@ fn install(sheet: &[u8], plan: &mut [u8]) -> Result<(), PlanFault>
     };
     place(&list, &test, &mut plan[0..count])
 }
+
+// The call has one answer: at most one number, and one content of the buffer.
+pub fn call_is_settled()
+    ensures { λ _. ⌜ Call-settled ⌝ }
+{}
