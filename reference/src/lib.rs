@@ -1,5 +1,5 @@
-//! A plain Rust placer, written from docs/SHEET.md, TASKS.md, FIT_TESTS.md, PLANNING.md and FAULTS.md alone.
-//! It shares no line with the proved crates: it is what they are compared with.
+//! A plain Rust placer, written after docs/SHEET.md, TASKS.md, FIT_TESTS.md, PLANNING.md and FAULTS.md.
+//! It shares no code with the proved crates: it is what they are compared with.
 
 pub mod fit;
 pub mod generate;
