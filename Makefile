@@ -1,4 +1,4 @@
-.PHONY: run test
+.PHONY: run test bench
 
 # Proves and builds the programs and runs each on its example.
 run:
@@ -9,3 +9,10 @@ run:
 # The gate.
 test:
 	.ci/run
+
+# The proved calls against the plain Rust reference, as ratios (docs/BENCHMARKS.md).
+bench:
+	rt staticlib installer
+	rt staticlib bench_exports
+	cargo build --quiet --release --offline --locked --manifest-path reference/Cargo.toml --target-dir build/cargo --bin bench
+	build/cargo/release/bench
