@@ -6,7 +6,7 @@ use words::number::is_word;
 use words::number::numbered;
 
 // The call, if the line says one.
-pub fn call(line: &[u8]) -> Option<Call>
+pub(crate) fn call(line: &[u8]) -> Option<Call>
     ensures { λ r. ⌜ Call-read (now (line .entry)) r ⌝ }
 {
     if let Some(task) = numbered(line, b"post ", MOST_NUMBER) {

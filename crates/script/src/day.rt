@@ -107,7 +107,7 @@ fn play_named(
 }
 
 // Makes the calls on the board that the headings ask for.
-pub fn run(headings: &Headings, entries: &mut [Entry]) -> Result<(), BoardFault>
+pub(crate) fn run(headings: &Headings, entries: &mut [Entry]) -> Result<(), BoardFault>
     ensures { λ r. ⌜ Day-run (vec-items (now (headings .entry) .sheet)) (proposed (now (headings .entry) .plan)) (now (headings .entry) .fit .test) (now (headings .entry) .fit .cost) (now (headings .entry) .start) (now (entries .entry)) r (now (entries .exit)) ⌝ }
 {
     let mut list = TaskList::new();

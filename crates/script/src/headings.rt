@@ -38,14 +38,14 @@ pub enum PlanChoice {
 }
 
 // The bytes of the sheet, if the line says any.
-pub fn sheet(heap: Global, line: &[u8]) -> Result<Option<Vec<u8>>, AllocError>
+pub(crate) fn sheet(heap: Global, line: &[u8]) -> Result<Option<Vec<u8>>, AllocError>
     ensures { λ r. ⌜ made r (Sheet-read (now (line .entry))) ⌝ }
 {
     hexed(heap, line, b"sheet ")
 }
 
 // Where the plan comes from, if the line says it.
-pub fn plan(heap: Global, line: &[u8]) -> Result<Option<PlanChoice>, AllocError>
+pub(crate) fn plan(heap: Global, line: &[u8]) -> Result<Option<PlanChoice>, AllocError>
     ensures { λ r. ⌜ made r (Plan-read (now (line .entry))) ⌝ }
 {
     if is_word(line, b"plan auto") {
@@ -58,7 +58,7 @@ pub fn plan(heap: Global, line: &[u8]) -> Result<Option<PlanChoice>, AllocError>
 }
 
 // The fit test and its cost, if the line says them.
-pub fn fit(line: &[u8]) -> Option<FitChoice>
+pub(crate) fn fit(line: &[u8]) -> Option<FitChoice>
     ensures { λ r. ⌜ Fit-read (now (line .entry)) r ⌝ }
 {
     if let Some(cost) = numbered(line, b"fit linear ", MOST_NUMBER) {
@@ -83,7 +83,7 @@ pub fn fit(line: &[u8]) -> Option<FitChoice>
 }
 
 // The starting clock, if the line says one.
-pub fn start(line: &[u8]) -> Option<u64>
+pub(crate) fn start(line: &[u8]) -> Option<u64>
     ensures { λ r. ⌜ Start-read (now (line .entry)) r ⌝ }
 {
     numbered(line, b"start ", u64::MAX)

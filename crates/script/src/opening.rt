@@ -42,7 +42,7 @@ fn next_or_blank<'a>(lines: &mut Lines<'a>) -> &'a [u8]
 }
 
 // Reads the headings.
-pub fn read_opening(heap: Global, lines: &mut Lines) -> Result<Opening, AllocError>
+pub(crate) fn read_opening(heap: Global, lines: &mut Lines) -> Result<Opening, AllocError>
     ensures { λ r. ⌜ made r (λ found. Opened (lines-left (now (lines .entry))) found (lines-left (now (lines .exit)))) ⌝ }
 {
     let Some(sheet) = headings::sheet(heap, next_or_blank(lines))? else {

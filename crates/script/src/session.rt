@@ -23,7 +23,7 @@ pub struct Session {
 }
 
 // Reads the calls.
-pub fn read_calls(heap: Global, mut lines: Lines) -> Result<Session, AllocError>
+pub(crate) fn read_calls(heap: Global, mut lines: Lines) -> Result<Session, AllocError>
     ensures { λ r. ⌜ made r (λ found. Calls-said (lines-left (lines .entry)) (calls-of (vec-items (found .entries))) (found .stopped)) ⌝ }
 {
     let mut entries = Vec::new(heap);
@@ -46,7 +46,7 @@ pub fn read_calls(heap: Global, mut lines: Lines) -> Result<Session, AllocError>
 }
 
 // Adds each line with its answer, up to the first entry that has none.
-pub fn add_answers(
+pub(crate) fn add_answers(
     text: &mut Vec<u8>,
     heap: Global,
     mut lines: Lines,

@@ -26,7 +26,7 @@ fn refused(text: &mut Vec<u8>, heap: Global, number: u32, place: u64) -> Result<
 }
 
 // Adds what is printed of an answer.
-pub fn answer(text: &mut Vec<u8>, heap: Global, given: Answer) -> Result<(), AllocError>
+pub(crate) fn answer(text: &mut Vec<u8>, heap: Global, given: Answer) -> Result<(), AllocError>
     ensures { λ r. ⌜ made r (λ _. vec-items (now (text .exit)) ≡ vec-items (now (text .entry)) ++ answer-text given) ⌝ }
 {
     match given {
@@ -42,7 +42,7 @@ pub fn answer(text: &mut Vec<u8>, heap: Global, given: Answer) -> Result<(), All
 }
 
 // Adds the line of a call and its answer.
-pub fn answered(
+pub(crate) fn answered(
     text: &mut Vec<u8>,
     heap: Global,
     line: &[u8],
@@ -58,7 +58,7 @@ pub fn answered(
 }
 
 // Adds the line for a board that was set up.
-pub fn set_up(text: &mut Vec<u8>) -> Result<(), AllocError>
+pub(crate) fn set_up(text: &mut Vec<u8>) -> Result<(), AllocError>
     ensures { λ r. ⌜ made r (λ _. vec-items (now (text .exit)) ≡ vec-items (now (text .entry)) ++ set-up-line) ⌝ }
 {
     text.extend_from_slice(b"set up = ok\n")?;
@@ -66,7 +66,7 @@ pub fn set_up(text: &mut Vec<u8>) -> Result<(), AllocError>
 }
 
 // Adds the line for a board that was not set up.
-pub fn not_set_up(
+pub(crate) fn not_set_up(
     text: &mut Vec<u8>,
     heap: Global,
     number: u32,
@@ -80,7 +80,7 @@ pub fn not_set_up(
 }
 
 // Adds the line that names a line of the input.
-pub fn not_understood(text: &mut Vec<u8>, heap: Global, line: usize) -> Result<(), AllocError>
+pub(crate) fn not_understood(text: &mut Vec<u8>, heap: Global, line: usize) -> Result<(), AllocError>
     ensures { λ r. ⌜ made r (λ _. vec-items (now (text .exit)) ≡ vec-items (now (text .entry)) ++ not-understood-line line) ⌝ }
 {
     let words = format!(heap, "line {line} is not understood\n")?;
