@@ -3,6 +3,7 @@ use mathlib.Core.Path.{_≡_}
 use mathlib.Core.List.{List}
 use mathlib.Core.Logic.{_⊎_}
 use Prim.Native.Nat.{ℕ, _<_, _≤_}
+use lib.ListN.{length}
 use Rattle.board.specs.PlainBoard.{PlainBoard, clock-end, new-board}
 use Rattle.board.specs.declared.fault.BoardFault.{BoardFault}
 use Rattle.board.specs.declared.fault.BoardFault.the-variants.{Plan, NoLane, NoTask, Early, QueueFull, SlotOpen, SlotShut, NotServed, ClockEnd}
@@ -21,7 +22,7 @@ module _ (yes-to : List TaskRecord → TaskRecord → Type 0) where
   abbrev pub Not-ready : ℕ → List TaskRecord → List ℕ → ℕ → BoardFault → Type 0
   Not-ready lanes tasks bytes start (Plan fault) = Cannot-place yes-to lanes tasks bytes fault
   Not-ready lanes tasks bytes start (ClockEnd clock) =
-      (placed : List ℕ) × Places yes-to lanes tasks placed × (clock-end < start) × (clock ≡ start)
+      (length bytes ≡ length tasks) × (placed : List ℕ) × Places yes-to lanes tasks placed × (clock-end < start) × (clock ≡ start)
   Not-ready lanes tasks bytes start (NoLane lane) = ⊥
   Not-ready lanes tasks bytes start (NoTask task) = ⊥
   Not-ready lanes tasks bytes start (Early clock) = ⊥

@@ -1,4 +1,4 @@
-// What the board's steps find in its arrays.
+// Looking at the board, and the steps of a slot.
 ghost use mathlib.Core.Bool.{cond};
 ghost use mathlib.Core.List.{map};
 ghost use mathlib.Core.Path.{_≡_};
@@ -16,6 +16,13 @@ use crate::board::Board;
 use crate::fault::BoardFault;
 
 impl Board {
+    // The clock.
+    pub fn clock(&self) -> u64
+        ensures { λ r. ⌜ r ≡ view (now (self .entry)) .clock ⌝ }
+    {
+        self.clock
+    }
+
     // The number of the task that a lane serves: the first in order on that lane with a job that waits.
     pub(crate) fn served(&self, lane: usize) -> Option<usize>
         ensures value { λ r. ⌜ r ≡ next-on (plan-of (now (self .entry) .seats)) lane (standings-on (now (self .entry))) (order (tasks-on (now (self .entry) .seats))) ⌝ }

@@ -36,13 +36,6 @@ impl Board {
         }
     }
 
-    // The clock.
-    pub fn clock(&self) -> u64
-        ensures { λ r. ⌜ r ≡ view (now (self .entry)) .clock ⌝ }
-    {
-        self.clock
-    }
-
     // How many jobs of the task wait.
     pub fn waiting(&self, task: usize) -> Result<usize, BoardFault>
         ensures { λ r. ⌜ Answered (view (now (self .entry))) (call.Waiting task) answer.Waiting r (view (now (self .entry))) ⌝ }
