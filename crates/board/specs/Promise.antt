@@ -153,7 +153,7 @@ module _ (yes-to : List TaskRecord → TaskRecord → Type 0) (lanes : ℕ) (tas
   -- or why no board is set up, and everything as it was.
   abbrev pub Came-out : List ℕ → ℕ → PlainBoard → List Entry → Result (Unit {0}) BoardFault → PlainBoard → List Entry → Type 0
   Came-out plan start before entries (Ok _) after filled =
-      (answers : List Answer) × Promise plan start (calls-of entries) answers after × (filled ≡ with-answers entries answers)
+      (answers : List Answer) × Promise plan start (calls-of entries) answers after × (filled ≡ with-answers entries answers) × (start ≤ clock-end)
   Came-out plan start before entries (Err fault) after filled =
       No-board plan start fault × (after ≡ before) × (filled ≡ entries)
 

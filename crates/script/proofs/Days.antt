@@ -56,7 +56,7 @@ module _ (yes-to : List TaskRecord → TaskRecord → Type 0) (lanes : ℕ) (tas
       → Played yes-to lanes tasks proposal start entries r filled
   performed proposal plan start before entries (Ok u) after filled chosen done =
       let out = done .came-out in
-      (out .0, record { plan = plan; chosen = chosen; left = after; promise = out .1 }, out .2)
+      (out .0, record { plan = plan; chosen = chosen; in-time = out .3; left = after; promise = out .1 }, out .2)
   performed (Some bytes) plan start before entries (Err fault) after filled chosen done =
       record { plan = plan; chosen = chosen; no-board = done .came-out .0 }
   performed None plan start before entries (Err fault) after filled chosen done =

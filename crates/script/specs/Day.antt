@@ -3,11 +3,11 @@ use mathlib.Core.Path.{_≡_}
 use mathlib.Core.Bool.{Bool, true, false}
 use mathlib.Core.Logic.{_⊎_}
 use mathlib.Core.List.{List, [], _∷_, _++_}
-use Prim.Native.Nat.{ℕ, _+_}
+use Prim.Native.Nat.{ℕ, _+_, _≤_}
 use lib.ListN.{drop, length}
 use Rattle.board.specs.Codes.{number, place}
 use Rattle.board.specs.Entries.{calls-of, with-answers}
-use Rattle.board.specs.PlainBoard.{PlainBoard}
+use Rattle.board.specs.PlainBoard.{PlainBoard, clock-end}
 use Rattle.board.specs.Promise.{No-board, Promise}
 use Rattle.board.specs.declared.call.Answer.{Answer}
 use Rattle.board.specs.declared.call.Call.{Call}
@@ -72,10 +72,12 @@ module _ (yes-to : List TaskRecord → TaskRecord → Type 0) (lanes : ℕ) (tas
   No-start (Some bytes) start fault = Boardless (Some bytes) start fault
   No-start None start fault = Unplaced fault ⊎ Boardless None start fault
 
-  -- The calls were made on a board with the day's plan, and these are the answers: those of the plain board, with the whole promise.
+  -- The calls were made on a board with the day's plan, started in time, and these are the answers: those of the plain
+  -- board, with the whole promise.
   pub record Made (proposal : Option (List ℕ)) (start : ℕ) (calls : List Call) (answers : List Answer) : Type 0 where
     pub plan : List ℕ
     pub chosen : Chosen proposal plan
+    pub in-time : start ≤ clock-end
     pub left : PlainBoard
     pub promise : Promise yes-to lanes tasks plan start calls answers left
 

@@ -37,5 +37,6 @@ returns g c =
         promise-kept yes-to (list .lanes) tasks law (list .works) plan start (up .0) calls (answers-to new calls) _ refl
             (c .answer-all .ensures .after ∙ ap (λ (b : PlainBoard). after-calls b calls) (up .2)),
         c .answer-all .ensures .filled ∙ ap (λ (b : PlainBoard). with-answers entries (answers-to b calls)) (up .2),
+        up .1,
       );
     }

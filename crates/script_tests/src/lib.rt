@@ -1,0 +1,3 @@
+// Recorded days by example.
+#[cfg(test)]
+mod days;
