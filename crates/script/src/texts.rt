@@ -80,7 +80,11 @@ pub(crate) fn not_set_up(
 }
 
 // Adds the line that names a line of the input.
-pub(crate) fn not_understood(text: &mut Vec<u8>, heap: Global, line: usize) -> Result<(), AllocError>
+pub(crate) fn not_understood(
+    text: &mut Vec<u8>,
+    heap: Global,
+    line: usize,
+) -> Result<(), AllocError>
     ensures { λ r. ⌜ made r (λ _. vec-items (now (text .exit)) ≡ vec-items (now (text .entry)) ++ not-understood-line line) ⌝ }
 {
     let words = format!(heap, "line {line} is not understood\n")?;
