@@ -91,7 +91,7 @@ fn read_text(
 }
 
 // What is printed for these bytes.
-pub fn listing(heap: Global, sheet: &[u8]) -> Result<Vec<u8>, AllocError>
+pub(crate) fn listing(heap: Global, sheet: &[u8]) -> Result<Vec<u8>, AllocError>
     ensures { λ r. ⌜ made r (λ text. Listing (now (sheet .entry)) (vec-items text)) ⌝ }
 {
     let mut text = Vec::new(heap);

@@ -10,7 +10,7 @@ use std::alloc::AllocError;
 use std::alloc::Global;
 
 // Adds the line for a list that was read.
-pub fn summary(
+pub(crate) fn summary(
     text: &mut Vec<u8>,
     heap: Global,
     tasks: usize,
@@ -24,7 +24,7 @@ pub fn summary(
 }
 
 // Adds the line for a refusal.
-pub fn refusal(
+pub(crate) fn refusal(
     text: &mut Vec<u8>,
     heap: Global,
     number: u32,
@@ -49,7 +49,7 @@ fn spaced_name(text: &mut Vec<u8>, name: &[u8]) -> Result<(), AllocError>
 }
 
 // Adds the line for a task that was placed.
-pub fn placed_task(
+pub(crate) fn placed_task(
     text: &mut Vec<u8>,
     heap: Global,
     task: usize,
