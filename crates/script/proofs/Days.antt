@@ -80,11 +80,11 @@ length_answers b [] = refl
 length_answers b (call ∷ calls) = ap suc (length_answers (after_call b call) calls)
 
 -- what is printed of a day that was played
-pub day_text : (sheet : List ℕ) (proposal : Option (List ℕ)) (test : TestName) (cost start : ℕ) (lines : List (List ℕ)) (entries filled : List Entry) (stopped : Bool) (text set-up lined done : List ℕ)
+pub day_text : (sheet : List ℕ) (proposal : Option (List ℕ)) (test : TestName) (cost start : ℕ) (lines : List (List ℕ)) (entries filled : List Entry) (stopped : Bool) (text set_up lined done : List ℕ)
     → CallsSaid lines (calls_of entries) stopped → DayRun sheet proposal test cost start entries (Ok tt) filled
-    → set-up ≡ text ++ set_up_line → lined ≡ set-up ++ answer_lines lines (given_in filled) → done ≡ lined ++ last_line stopped (length entries)
+    → set_up ≡ text ++ set_up_line → lined ≡ set_up ++ answer_lines lines (given_in filled) → done ≡ lined ++ last_line stopped (length entries)
     → (more : List ℕ) × AfterHeadings sheet proposal test cost start lines more × (done ≡ text ++ more)
-day_text sheet proposal test cost start lines entries filled stopped text set-up lined done said run set-up-is lined-is done-is =
+day_text sheet proposal test cost start lines entries filled stopped text set_up lined done said run set_up-is lined-is done-is =
     let answers = run.0 in
     let calls = calls_of entries in
     let count : length calls ≡ length entries = length-map entries (λ (e : Entry). e.call) in
@@ -93,7 +93,7 @@ day_text sheet proposal test cost start lines entries filled stopped text set-up
     let whole : done ≡ text ++ (set_up_line ++ (answer_lines lines answers ++ last_line stopped (length calls))) =
     done-is
     ∙ ap (λ n. lined ++ last_line stopped n) (sym count)
-    ∙ ap (λ t. t ++ last_line stopped (length calls)) (lined-is ∙ ap (λ given. set-up ++ answer_lines lines given) back ∙ ap (λ t. t ++ answer_lines lines answers) set-up-is)
+    ∙ ap (λ t. t ++ last_line stopped (length calls)) (lined-is ∙ ap (λ given. set_up ++ answer_lines lines given) back ∙ ap (λ t. t ++ answer_lines lines answers) set_up-is)
     ∙ append_assoc (text ++ set_up_line) (answer_lines lines answers) (last_line stopped (length calls))
     ∙ append_assoc text set_up_line (answer_lines lines answers ++ last_line stopped (length calls)) in
     (set_up_line ++ (answer_lines lines answers ++ last_line stopped (length calls)), played said run.1, whole)

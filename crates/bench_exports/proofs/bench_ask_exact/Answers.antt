@@ -14,14 +14,14 @@ returns-in-Err c =
 
 pub returns-then-count-lt1 : goal.returns-then-count-lt1
 returns-then-count-lt1 c =
-    let read = c.in-default.ensures in
+    let read = c.in_default.ensures in
     let list = c.read.new.self in
     let none : length (tasks_of list) ≡ 0 = omega (arith, ap length c.records-tasks.ensures) in
     none_to_ask c.args.sheet.now list read.0 read.1 read.2 none
 
 pub returns-then-fits : goal.returns-then-fits
 returns-then-fits c =
-    let read = c.in-default.ensures in
+    let read = c.in_default.ensures in
     let now = c.records-tasks.result.now in
     let whole : length now - 1 - 0 ≡ length now - 1 = omega arith in
     last_taken c.args.sheet.now c.read.new.self read.0 read.1 read.2
@@ -29,7 +29,7 @@ returns-then-fits c =
 
 pub returns-else-fits : goal.returns-else-fits
 returns-else-fits c =
-    let read = c.in-default.ensures in
+    let read = c.in_default.ensures in
     let now = c.records-tasks.result.now in
     let whole : length now - 1 - 0 ≡ length now - 1 = omega arith in
     last-left c.args.sheet.now c.read.new.self read.0 read.1 read.2

@@ -13,14 +13,14 @@ returns-in-Err c =
 
 pub returns-in-Ok : goal.returns-in-Ok
 returns-in-Ok c =
-    let read = c.in-default.ensures in
+    let read = c.in_default.ensures in
     placed_list c.args.sheet.now c.read.new.self read.0 read.1 read.2 c.args.plan.now
-    c.either-over.result.first.grid (c.either-over.ensures ∙ c.grid.ensures) (Ok tt) c.place.new.plan c.in-Ok.ensures
+    c.either_over.result.first.grid (c.either_over.ensures ∙ c.grid.ensures) (Ok tt) c.place.new.plan c.in-Ok.ensures
 
 pub returns-in-Err-place : goal.returns-in-Err-place
 returns-in-Err-place c =
-    let read = c.in-default.ensures in
+    let read = c.in_default.ensures in
     let after = c.place.new.plan in
     subst (λ (code : ℕ). PlacedEither c.args.sheet.now c.args.plan.now code after) (sym c.number-in-Err-place.ensures)
     (placed_list c.args.sheet.now c.read.new.self read.0 read.1 read.2 c.args.plan.now
-    c.either-over.result.first.grid (c.either-over.ensures ∙ c.grid.ensures) (Err c.in-Err-place.fault) after c.in-Err-place.ensures)
+    c.either_over.result.first.grid (c.either_over.ensures ∙ c.grid.ensures) (Err c.in-Err-place.fault) after c.in-Err-place.ensures)

@@ -6,12 +6,12 @@ use Rattle.installer.proofs.install.Goals as goal
 
 pub returns-then-plan-count : goal.returns-then-plan-count
 returns-then-plan-count c =
-    let read = c.in-ok-read.ensures in
+    let read = c.in_ok-read.ensures in
     (too_few c.args.sheet.now c.args.plan.now c.read.new.self read.0 read.1 read.2 (length c.args.plan.now) refl (omega arith), refl)
 
 pub returns : goal.returns
 returns c =
-    let read = c.in-ok-read.ensures in
+    let read = c.in_ok-read.ensures in
     let list = c.read.new.self in
     let all : c.len-count.result - 0 ≡ length (tasks_of list) = omega arith in
     let room : c.len-count.result - 0 ≤ length c.args.plan.now = omega arith in

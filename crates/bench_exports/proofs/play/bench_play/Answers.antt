@@ -32,13 +32,13 @@ returns-in-Err-prepare c =
     let plan = c.args.plan.now in
     let lines = c.args.lines.now in
     let list = c.read.new.self in
-    let read = c.in-default.ensures in
+    let read = c.in_default.ensures in
     let placed = c.prepare.new.plan in
     let b = view c.prepare.new.board in
     let fault = c.in-Err-prepare.fault in
     subst (λ (code : ℕ). Played sheet plan c.args.start lines code placed lines) (sym c.number-in-Err-prepare.ensures)
     (refused list.grid list.lanes read.0 fault placed b read.1
-    (from-new list.grid c.either-over-test.result.first.grid (c.either-over-test.ensures ∙ c.grid.ensures) sheet plan c.args.start
+    (from-new list.grid c.either_over-test.result.first.grid (c.either_over-test.ensures ∙ c.grid.ensures) sheet plan c.args.start
     (view c.new_board.result) c.new_board.ensures (Err fault) placed b c.in-Err-prepare.ensures))
 
 pub returns : goal.returns
@@ -47,10 +47,10 @@ returns c =
     let plan = c.args.plan.now in
     let lines = c.args.lines.now in
     let list = c.read.new.self in
-    let read = c.in-default.ensures in
+    let read = c.in_default.ensures in
     let placed = c.prepare.new.plan in
     let b = view c.prepare.new.board in
     subst (λ (after : List Line). Played sheet plan c.args.start lines 0 placed after) (sym c.play.ensures)
     (answered list.grid list.lanes read.0 placed b read.1
-    (from-new list.grid c.either-over-test.result.first.grid (c.either-over-test.ensures ∙ c.grid.ensures) sheet plan c.args.start
-    (view c.new_board.result) c.new_board.ensures (Ok tt) placed b c.in-default-prepare.ensures))
+    (from-new list.grid c.either_over-test.result.first.grid (c.either_over-test.ensures ∙ c.grid.ensures) sheet plan c.args.start
+    (view c.new_board.result) c.new_board.ensures (Ok tt) placed b c.in_default-prepare.ensures))

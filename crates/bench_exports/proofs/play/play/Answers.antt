@@ -19,8 +19,8 @@ loop-line-preserved c =
     let given = c.answer-answer.ensures.value ∙ ap (answer_to b) c.said.ensures in
     one-played (view c.args.board.now) c.args.lines.now c.loop-line.line-index b c.loop-line.lines c.loop-line.invariant
     none (omega arith) (view c.answer-answer.new.self) (c.answer-answer.ensures.after ∙ ap (after_call b) c.said.ensures) _
-    (ap (λ n. record { call = line.call; argument = line.argument; code = n; value = c.value-of-line.result }) (c.code-of-line.ensures ∙ ap code_of given)
-    ∙ ap (λ n. record { call = line.call; argument = line.argument; code = code_of (answer_to b (call_said line)); value = n }) (c.value-of-line.ensures ∙ ap value_of given))
+    (ap (λ n. record { call = line.call; argument = line.argument; code = n; value = c.value_of-line.result }) (c.code_of-line.ensures ∙ ap code_of given)
+    ∙ ap (λ n. record { call = line.call; argument = line.argument; code = code_of (answer_to b (call_said line)); value = n }) (c.value_of-line.ensures ∙ ap value_of given))
 
 pub returns : goal.returns
 returns c =

@@ -7,8 +7,8 @@ use Rattle.fit.specs.Tests.{requests}
 use Rattle.std.proofs.ByRecursion.{All-get_or}
 use Rattle.tasks.specs.Task.{Bounded, widest_grid}
 
-pub requests-of-sum-requires : goal.requests-of-sum-requires
-requests-of-sum-requires c =
+pub requests_of-sum-requires : goal.requests_of-sum-requires
+requests_of-sum-requires c =
     record {
       in_time = c.requires.in_time;
       bounded = All-get_or (Bounded widest_grid) c.args.row.now c.loop-t.t-index no_task c.loop-t-test.true c.requires.askable.row_bounded;
@@ -17,7 +17,7 @@ requests-of-sum-requires c =
 pub loop-t-preserved : goal.loop-t-preserved
 loop-t-preserved c =
     total_goes (requests c.args.time) (2 ^ 40) c.args.row.now c.loop-t.t-index c.loop-t.sum c.loop-t.invariant no_task
-    c.requests-of-sum.result c.loop-t-test.true c.requests-of-sum.ensures.value c.requests-of-sum.ensures.bound
+    c.requests_of-sum.result c.loop-t-test.true c.requests_of-sum.ensures.value c.requests_of-sum.ensures.bound
 
 pub returns : goal.returns
 returns c =

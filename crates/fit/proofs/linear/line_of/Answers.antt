@@ -4,9 +4,9 @@ use Rattle.fit.proofs.Bounds.{line-bound}
 use Rattle.fit.proofs.linear.line_of.Goals as goal
 use Rattle.fit.specs.Tests.{line}
 
-is-line : (c : goal.After-share-of)
-    → c.args.grid * c.args.t.work + c.share-of.result * c.args.time ≡ line c.args.grid c.args.time c.args.t
-is-line c = ap (λ n. c.args.grid * c.args.t.work + n * c.args.time) c.share-of.ensures.value
+is-line : (c : goal.After-share_of)
+    → c.args.grid * c.args.t.work + c.share_of.result * c.args.time ≡ line c.args.grid c.args.time c.args.t
+is-line c = ap (λ n. c.args.grid * c.args.t.work + n * c.args.time) c.share_of.ensures.value
 
 pub overflow-add-result : goal.overflow-add-result
 overflow-add-result c =

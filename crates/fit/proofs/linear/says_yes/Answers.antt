@@ -35,17 +35,17 @@ module _ (grid : ℕ) (row : List TaskRecord) (asked : TaskRecord) where
     fit_of : LinearYes grid row asked → share grid asked + sums.shares ≤ grid
     fit_of h = subst (λ (n : ℕ). share grid asked + n ≤ grid) (sym summed.shares) h.shares
 
-pub returns-then-in-time : goal.returns-then-in-time
-returns-then-in-time c =
+pub returns-then-in_time : goal.returns-then-in_time
+returns-then-in_time c =
     let grid = c.args.grid in
     let row = c.args.row.now in
     let asked = c.args.asked in
     let sums = c.in-Some.sums in
     let summed = c.in-Some.ensures in (
       λ fit.
-          yes_of grid row asked sums summed c.if-row-gt-LONGEST-ROW.false (c.bounded.ensures.0 c.if-not-bounded.false)
-          (c.on_grid.ensures.0 c.if-not-on-grid.false) (c.in_time.ensures.0 c.if-in-time.true) (c.shares-fit.ensures.0 fit),
-      λ h. c.shares-fit.ensures.1 (fit_of grid row asked sums summed h),
+          yes_of grid row asked sums summed c.if-row-gt-LONGEST_ROW.false (c.bounded.ensures.0 c.if-not-bounded.false)
+          (c.on_grid.ensures.0 c.if-not-on_grid.false) (c.in_time.ensures.0 c.if-in_time.true) (c.shares_fit.ensures.0 fit),
+      λ h. c.shares_fit.ensures.1 (fit_of grid row asked sums summed h),
     )
 
 pub returns-in-None : goal.returns-in-None

@@ -19,21 +19,21 @@ returns-then-not-bounded c all =
     let here = All-get_or (On-grid c.args.grid) c.args.row.now c.loop-t.t-index no_task c.loop-t-test.true all in
     false≢true (sym c.if-not-bounded.true ∙ c.bounded.ensures.1 here.0)
 
-pub returns-then-not-on-grid : goal.returns-then-not-on-grid
-returns-then-not-on-grid c all =
+pub returns-then-not-on_grid : goal.returns-then-not-on_grid
+returns-then-not-on_grid c all =
     let here = All-get_or (On-grid c.args.grid) c.args.row.now c.loop-t.t-index no_task c.loop-t-test.true all in
-    false≢true (sym c.if-not-on-grid.true ∙ c.on_grid.ensures.1 here.1)
+    false≢true (sym c.if-not-on_grid.true ∙ c.on_grid.ensures.1 here.1)
 
 pub loop-t-preserved : goal.loop-t-preserved
 loop-t-preserved c =
     let row = c.args.row.now in
     let i = c.loop-t.t-index in (
       All-more (On-grid c.args.grid) row i no_task c.loop-t-test.true c.loop-t.invariant.0
-          (c.bounded.ensures.0 c.if-not-bounded.false, c.on_grid.ensures.0 c.if-not-on-grid.false),
+          (c.bounded.ensures.0 c.if-not-bounded.false, c.on_grid.ensures.0 c.if-not-on_grid.false),
       total_goes (line c.args.grid c.args.time) (2 ^ 45) row i c.loop-t.lines c.loop-t.invariant.1 no_task
-          c.line-of-lines.result c.loop-t-test.true c.line-of-lines.ensures.value c.line-of-lines.ensures.bound,
+          c.line_of-lines.result c.loop-t-test.true c.line_of-lines.ensures.value c.line_of-lines.ensures.bound,
       total_goes (share c.args.grid) widest_grid row i c.loop-t.shares c.loop-t.invariant.2 no_task
-          c.share-of-shares.result c.loop-t-test.true c.share-of-shares.ensures.value c.share-of-shares.ensures.bound,
+          c.share_of-shares.result c.loop-t-test.true c.share_of-shares.ensures.value c.share_of-shares.ensures.bound,
     )
 
 pub returns : goal.returns

@@ -8,8 +8,8 @@ use Rattle.std.proofs.ByRecursion.{All-get_or}
 use Rattle.std.proofs.lemmas.List.{length-set}
 use Rattle.tasks.specs.Task.{Bounded, widest_grid}
 
-pub raised-task-requires : goal.raised-task-requires
-raised-task-requires c =
+pub raised_task-requires : goal.raised_task-requires
+raised_task-requires c =
     record {
       in_range = c.requires.in_range;
       bounded = All-get_or (Bounded widest_grid) c.args.row.now c.loop-i.i no_task c.loop-i-test.true c.requires.bounded;
@@ -17,9 +17,9 @@ raised-task-requires c =
 
 pub loop-i-preserved : goal.loop-i-preserved
 loop-i-preserved c = (
-  length-set c.loop-i.dear c.loop-i.i c.raised-task.result ∙ c.loop-i.invariant.0,
-  copy_goes (raised c.args.cost) c.args.row.now c.loop-i.dear c.loop-i.i no_task c.raised-task.result
-      c.loop-i-test.true (omega (arith, c.loop-i.invariant.0)) c.raised-task.ensures c.loop-i.invariant.1,
+  length-set c.loop-i.dear c.loop-i.i c.raised_task.result ∙ c.loop-i.invariant.0,
+  copy_goes (raised c.args.cost) c.args.row.now c.loop-i.dear c.loop-i.i no_task c.raised_task.result
+      c.loop-i-test.true (omega (arith, c.loop-i.invariant.0)) c.raised_task.ensures c.loop-i.invariant.1,
 )
 
 pub returns : goal.returns

@@ -6,18 +6,18 @@ use Rattle.lanes.proofs.listing.block.Goals as goal
 
 pub returns-in-Err : goal.returns-in-Err
 returns-in-Err g c =
-    let begun = vec_items c.extend-from-slice.new.self in
+    let begun = vec_items c.extend_from_slice.new.self in
     block_unplaced (g.F.FitTest.yes c.args.test.now) c.args.sheet.now c.args.list.now c.args.heading.now (vec_items c.args.text.now)
     begun (vec_items c.refusal.new.text)
-    c.in-ok-extend-from-slice.ensures.items
+    c.in_ok-extend_from_slice.ensures.items
     _ c.in-Err.fault (search rules) c.in-Err.ensures.0
-    (c.in-ok-refusal.ensures
+    (c.in_ok-refusal.ensures
     ∙ ap (λ n. begun ++ refusal_line n c.place-in-Err.result) c.number.ensures
     ∙ ap (λ p. begun ++ refusal_line (number c.in-Err.fault) p) c.place-in-Err.ensures)
 
 pub returns : goal.returns
 returns g c =
     block_placed (g.F.FitTest.yes c.args.test.now) c.args.sheet.now c.args.list.now c.args.heading.now (vec_items c.args.text.now)
-    (vec_items c.extend-from-slice.new.self) (vec_items c.lines.new.text)
-    c.in-ok-extend-from-slice.ensures.items
-    c.place.new.plan c.in-default.ensures.0 c.in-ok-lines.ensures
+    (vec_items c.extend_from_slice.new.self) (vec_items c.lines.new.text)
+    c.in_ok-extend_from_slice.ensures.items
+    c.place.new.plan c.in_default.ensures.0 c.in_ok-lines.ensures

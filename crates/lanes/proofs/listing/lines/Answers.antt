@@ -13,7 +13,7 @@ loop-task-preserved c = (
       let line = task_line k (get_or plan k 0) in
       let grown = task_lines plan entries k in
       let next : suc k ≡ k + 1 = omega arith in
-      c.in-ok-placed-task.ensures
+      c.in_ok-placed_task.ensures
       ∙ ap (λ name. vec_items c.loop-task.text ++ line name) (c.name_bytes.ensures grid lanes entries spells inside)
       ∙ ap (λ text. text ++ line (get_or entries k no_entry).name) (c.loop-task.invariant.1 grid lanes entries spells long)
       ∙ append_assoc (vec_items c.args.text.now) grown (line (get_or entries k no_entry).name)

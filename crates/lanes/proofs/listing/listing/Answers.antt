@@ -8,7 +8,7 @@ pub returns-in-Err : goal.returns-in-Err
 returns-in-Err c =
     let fault = c.in-Err.fault in
     let shown =
-    c.in-ok-refusal.ensures
+    c.in_ok-refusal.ensures
     ∙ ap (λ t. t ++ refusal_line c.number.result c.place.result) c.new-text.ensures.items
     ∙ ap (λ n. refusal_line n c.place.result) c.number.ensures
     ∙ ap (λ p. refusal_line (number fault) p) c.place.ensures in

@@ -14,7 +14,7 @@ returns-in-None c =
     subst (NameThere c.args.sheet.now c.args.task) (ap name_or_none c.in-Ok.is ∙ ap name_said c.in-None.is)
     (name-is c.args.sheet.now c.args.task c.name.result c.name.ensures)
 
-pub returns-in-default : goal.returns-in-default
-returns-in-default c =
-    subst (NameThere c.args.sheet.now c.args.task) (none_unless_ok c.name.result c.in-default.not-Ok)
+pub returns-in_default : goal.returns-in_default
+returns-in_default c =
+    subst (NameThere c.args.sheet.now c.args.task) (none_unless_ok c.name.result c.in_default.not-Ok)
     (name-is c.args.sheet.now c.args.task c.name.result c.name.ensures)

@@ -7,8 +7,8 @@ pub returns : goal.returns
 returns c =
     let text = vec_items c.args.text.now in
     let name = c.args.name.now in
-    c.in-ok-extend-from-slice-2.ensures.items
-    ∙ ap (λ v. v ++ codes "\n") (c.in-ok-spaced-name.ensures
-    ∙ ap (λ v. v ++ spaced name) (c.in-ok-extend-from-slice.ensures.items
-    ∙ ap (λ f. text ++ f) (c.as-bytes.ensures.value ∙ c.in-ok-front.ensures.ok)))
+    c.in_ok-extend_from_slice-2.ensures.items
+    ∙ ap (λ v. v ++ codes "\n") (c.in_ok-spaced_name.ensures
+    ∙ ap (λ v. v ++ spaced name) (c.in_ok-extend_from_slice.ensures.items
+    ∙ ap (λ f. text ++ f) (c.as_bytes.ensures.value ∙ c.in_ok-front.ensures.ok)))
     ∙ four_parts text (decimal c.args.task) (codes " ") (decimal c.args.lane) (spaced name) (codes "\n")

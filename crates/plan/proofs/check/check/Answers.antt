@@ -11,5 +11,5 @@ returns g c =
     let long : length plan ≡ length (tasks_of list) = omega arith in
     checked_in_turn (g.F.FitTest.yes c.args.test.now) list.lanes (tasks_of list) plan
     (g.met.F.FitTest.safe c.args.test.now) long
-    (λ number h. omega (arith, c.in-ok-on-lanes.ensures number (omega arith)))
-    c.each-fits.result c.each-fits.ensures
+    (λ number h. omega (arith, c.in_ok-on_lanes.ensures number (omega arith)))
+    c.each_fits.result c.each_fits.ensures

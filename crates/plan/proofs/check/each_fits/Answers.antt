@@ -17,27 +17,27 @@ loop-turn-init g c =
 
 pub bounds-plan-number : goal.bounds-plan-number
 bounds-plan-number g c =
-    let at = number_in_turn (tasks_of c.args.list.now) _ c.numbers-in-order-turns.ensures.ordered c.loop-turn.turn (omega arith) in
+    let at = number_in_turn (tasks_of c.args.list.now) _ c.numbers_in_order-turns.ensures.ordered c.loop-turn.turn (omega arith) in
     omega (arith, at.1)
 
 pub offset-bounds-records-number : goal.offset-bounds-records-number
 offset-bounds-records-number g c =
-    let at = number_in_turn (tasks_of c.args.list.now) _ c.numbers-in-order-turns.ensures.ordered c.loop-turn.turn (omega arith) in
+    let at = number_in_turn (tasks_of c.args.list.now) _ c.numbers_in_order-turns.ensures.ordered c.loop-turn.turn (omega arith) in
     omega (arith, at.1, length-tasks c.args.list.now)
 
 pub bounds-records-number : goal.bounds-records-number
 bounds-records-number g c =
-    let at = number_in_turn (tasks_of c.args.list.now) _ c.numbers-in-order-turns.ensures.ordered c.loop-turn.turn (omega arith) in
+    let at = number_in_turn (tasks_of c.args.list.now) _ c.numbers_in_order-turns.ensures.ordered c.loop-turn.turn (omega arith) in
     omega (arith, at.1, ap length c.records-records.ensures)
 
 pub takes-requires : goal.takes-requires
 takes-requires g c =
-    let at = number_in_turn (tasks_of c.args.list.now) _ c.numbers-in-order-turns.ensures.ordered c.loop-turn.turn (omega arith) in
+    let at = number_in_turn (tasks_of c.args.list.now) _ c.numbers_in_order-turns.ensures.ordered c.loop-turn.turn (omega arith) in
     omega (arith, c.requires.lanes _ at.1, c.args.list.now.lane_range)
 
 pub put-requires : goal.put-requires
 put-requires g c =
-    let at = number_in_turn (tasks_of c.args.list.now) _ c.numbers-in-order-turns.ensures.ordered c.loop-turn.turn (omega arith) in
+    let at = number_in_turn (tasks_of c.args.list.now) _ c.numbers_in_order-turns.ensures.ordered c.loop-turn.turn (omega arith) in
     omega (arith, c.requires.lanes _ at.1, c.args.list.now.lane_range)
 
 pub returns-then-not-takes : goal.returns-then-not-takes
@@ -46,9 +46,9 @@ returns-then-not-takes g c =
     let plan = c.args.plan.now in
     let k = c.loop-turn.turn in
     let turned = c.loop-turn.invariant.0 in
-    let number = get_or c.numbers-in-order-turns.result k 0 in
+    let number = get_or c.numbers_in_order-turns.result k 0 in
     let here : k < length tasks = omega arith in
-    let at = number_in_turn tasks c.numbers-in-order-turns.result c.numbers-in-order-turns.ensures.ordered k here in
+    let at = number_in_turn tasks c.numbers_in_order-turns.result c.numbers_in_order-turns.ensures.ordered k here in
     let four : lane_of plan number < 4 = omega (arith, c.requires.lanes number at.1, c.args.list.now.lane_range) in
     let asked =
     asked_in_turn tasks plan k c.loop-turn.rows.lanes turned (g.F.FitTest.yes c.args.test.now)
@@ -69,36 +69,36 @@ loop-turn-preserved g c =
     let plan = c.args.plan.now in
     let k = c.loop-turn.turn in
     let turned = c.loop-turn.invariant.0 in
-    let number = get_or c.numbers-in-order-turns.result k 0 in
+    let number = get_or c.numbers_in_order-turns.result k 0 in
     let lane = lane_of plan number in
     let rows = c.loop-turn.rows.lanes in
     let records = c.records-records.result.now in
     let here : k < length tasks = omega arith in
-    let at = number_in_turn tasks c.numbers-in-order-turns.result c.numbers-in-order-turns.ensures.ordered k here in
+    let at = number_in_turn tasks c.numbers_in_order-turns.result c.numbers_in_order-turns.ensures.ordered k here in
     let four : lane < 4 = omega (arith, c.requires.lanes number at.1, c.args.list.now.lane_range) in
     let asked =
     asked_in_turn tasks plan k rows turned (g.F.FitTest.yes c.args.test.now)
     c.args.list.now.lanes records c.records-records.ensures number at.0 lane four c.takes.result c.takes.ensures in
     let joined =
     subst (λ (all : List TaskRecord). map held c.put.new.self.lanes ≡ set (map held rows) lane (row_on rows lane ++ (record_of all number ∷ [])))
-    c.records-records.ensures c.in-ok-put.ensures in (
+    c.records-records.ensures c.in_ok-put.ensures in (
       turned_next tasks plan k rows turned number lane c.put.new.self.lanes here at.0 c.loop-turn.rows.four four refl joined,
       below_more _ k c.loop-turn.invariant.1
           (subst (λ (n : ℕ). Takes (g.F.FitTest.yes c.args.test.now) c.args.list.now.lanes tasks plan (lane_of plan n) k) at.0 (asked.0 c.if-not-takes.false)),
     )
 
-pub returns-in-err-put : goal.returns-in-err-put
-returns-in-err-put g c =
+pub returns-in_err-put : goal.returns-in_err-put
+returns-in_err-put g c =
     let tasks = tasks_of c.args.list.now in
     let k = c.loop-turn.turn in
     let turned = c.loop-turn.invariant.0 in
-    let number = get_or c.numbers-in-order-turns.result k 0 in
+    let number = get_or c.numbers_in_order-turns.result k 0 in
     let lane = lane_of c.args.plan.now number in
     let here : k < length tasks = omega arith in
-    let at = number_in_turn tasks c.numbers-in-order-turns.result c.numbers-in-order-turns.ensures.ordered k here in
+    let at = number_in_turn tasks c.numbers_in_order-turns.result c.numbers_in_order-turns.ensures.ordered k here in
     let four : lane < 4 = omega (arith, c.requires.lanes number at.1, c.args.list.now.lane_range) in
     absurd
-    (room_in_row tasks c.args.plan.now k c.loop-turn.rows.lanes turned here (length-tasks c.args.list.now) lane four c.in-err-put.ensures)
+    (room_in_row tasks c.args.plan.now k c.loop-turn.rows.lanes turned here (length-tasks c.args.list.now) lane four c.in_err-put.ensures)
 
 pub returns : goal.returns
 returns g c k h = c.loop-turn.invariant.1 k (omega arith)

@@ -19,31 +19,31 @@ loop-turn-init g c =
 
 pub offset-bounds-records-number : goal.offset-bounds-records-number
 offset-bounds-records-number g c =
-    let at = number_in_turn (tasks_of c.args.list.now) _ c.numbers-in-order-turns.ensures.ordered c.loop-turn.turn (omega arith) in
+    let at = number_in_turn (tasks_of c.args.list.now) _ c.numbers_in_order-turns.ensures.ordered c.loop-turn.turn (omega arith) in
     omega (arith, at.1, length-tasks c.args.list.now)
 
 pub bounds-records-number : goal.bounds-records-number
 bounds-records-number g c =
-    let at = number_in_turn (tasks_of c.args.list.now) _ c.numbers-in-order-turns.ensures.ordered c.loop-turn.turn (omega arith) in
+    let at = number_in_turn (tasks_of c.args.list.now) _ c.numbers_in_order-turns.ensures.ordered c.loop-turn.turn (omega arith) in
     omega (arith, at.1, ap length c.records-records.ensures)
 
 pub bounds-plan-number : goal.bounds-plan-number
 bounds-plan-number g c =
-    let at = number_in_turn (tasks_of c.args.list.now) _ c.numbers-in-order-turns.ensures.ordered c.loop-turn.turn (omega arith) in
+    let at = number_in_turn (tasks_of c.args.list.now) _ c.numbers_in_order-turns.ensures.ordered c.loop-turn.turn (omega arith) in
     omega (arith, at.1, length-tasks c.args.list.now)
 
-pub returns-in-default : goal.returns-in-default
-returns-in-default g c =
+pub returns-in_default : goal.returns-in_default
+returns-in_default g c =
     let list = c.args.list.now in
     let tasks = tasks_of list in
     let k = c.loop-turn.turn in
     let turned = c.loop-turn.invariant.1 in
     let here : k < length tasks = omega arith in
-    let at = number_in_turn tasks c.numbers-in-order-turns.result c.numbers-in-order-turns.ensures.ordered k here in
+    let at = number_in_turn tasks c.numbers_in_order-turns.result c.numbers_in_order-turns.ensures.ordered k here in
     let none : (lane : ℕ) → lane < list.lanes → lane < c.seek.lane =
     elim c.if-lane-lanes.branch [
       | then-lane-lanes w ↦ λ lane l. omega (arith, w.if-lane-lanes.true, c.lanes-lanes.ensures)
-      | else-lane-lanes+then-takes w ↦ absurd (found_or_not {o = c.if-lane-lanes.first} w.first-is c.in-default.is)
+      | else-lane-lanes+then-takes w ↦ absurd (found_or_not {o = c.if-lane-lanes.first} w.first-is c.in_default.is)
     ] in (
       k,
       c.loop-turn.plan,
@@ -54,7 +54,7 @@ returns-in-default g c =
           c.seek.invariant.1 lane (none lane l)
           (takes_asked tasks c.loop-turn.plan k c.loop-turn.rows.lanes turned
           (g.F.FitTest.yes c.args.test.now) list.lanes c.records-records.result.now c.records-records.ensures
-          (get_or c.numbers-in-order-turns.result k 0) at.0 lane (omega (arith, list.lane_range)) takes),
+          (get_or c.numbers_in_order-turns.result k 0) at.0 lane (omega (arith, list.lane_range)) takes),
     )
 
 pub loop-turn-preserved : goal.loop-turn-preserved
@@ -64,13 +64,13 @@ loop-turn-preserved g c =
     let plan = c.loop-turn.plan in
     let k = c.loop-turn.turn in
     let turned = c.loop-turn.invariant.1 in
-    let number = get_or c.numbers-in-order-turns.result k 0 in
+    let number = get_or c.numbers_in_order-turns.result k 0 in
     let lane = c.in-Some.lane in
     let rows = c.loop-turn.rows.lanes in
     let records = c.records-records.result.now in
     let yes-to = g.F.FitTest.yes c.args.test.now in
     let here : k < length tasks = omega arith in
-    let at = number_in_turn tasks c.numbers-in-order-turns.result c.numbers-in-order-turns.ensures.ordered k here in
+    let at = number_in_turn tasks c.numbers_in_order-turns.result c.numbers_in_order-turns.ensures.ordered k here in
     let found : (lane ≡ c.seek.lane) × (lane < list.lanes) × yes-to (row_on rows lane) (record_of records number) =
     elim c.if-lane-lanes.branch [
       | then-lane-lanes w ↦ absurd (found_or_not {o = c.if-lane-lanes.first} c.in-Some.is w.first-is)
@@ -85,7 +85,7 @@ loop-turn-preserved g c =
     let inside : number < length plan = omega (arith, at.1, length-tasks list, c.loop-turn.invariant.0) in
     let joined =
     subst (λ (all : List TaskRecord). map held c.put.new.self.lanes ≡ set (map held rows) lane (row_on rows lane ++ (record_of all number ∷ [])))
-    c.records-records.ensures c.in-ok-put.ensures in
+    c.records-records.ensures c.in_ok-put.ensures in
     let plan' = set plan number lane in
     let alike =
     turned_alike tasks plan k rows turned plan'
@@ -102,15 +102,15 @@ loop-turn-preserved g c =
           number at.0 lower (omega arith) takes)),
     )
 
-pub returns-in-err-put : goal.returns-in-err-put
-returns-in-err-put g c =
+pub returns-in_err-put : goal.returns-in_err-put
+returns-in_err-put g c =
     let list = c.args.list.now in
     let tasks = tasks_of list in
     let k = c.loop-turn.turn in
     let turned = c.loop-turn.invariant.1 in
     let lane = c.in-Some.lane in
     let here : k < length tasks = omega arith in
-    let at = number_in_turn tasks c.numbers-in-order-turns.result c.numbers-in-order-turns.ensures.ordered k here in
+    let at = number_in_turn tasks c.numbers_in_order-turns.result c.numbers_in_order-turns.ensures.ordered k here in
     let four : lane < 4 =
     elim c.if-lane-lanes.branch [
       | then-lane-lanes w ↦ absurd (found_or_not {o = c.if-lane-lanes.first} c.in-Some.is w.first-is)
@@ -119,7 +119,7 @@ returns-in-err-put g c =
           omega (arith, w.if-lane-lanes.false, c.lanes-lanes.ensures, list.lane_range)
     ] in
     absurd
-    (room_in_row tasks c.loop-turn.plan k c.loop-turn.rows.lanes turned here (length-tasks list) lane four c.in-err-put.ensures)
+    (room_in_row tasks c.loop-turn.plan k c.loop-turn.rows.lanes turned here (length-tasks list) lane four c.in_err-put.ensures)
 
 pub returns : goal.returns
 returns g c = (c.loop-turn.invariant.0, λ k h. c.loop-turn.invariant.2 k (omega arith))

@@ -7,22 +7,22 @@ use Rattle.plan.proofs.Awaiting.{length-tasks}
 use Rattle.plan.proofs.FirstFit.{none_fitted, placed_front}
 use Rattle.plan.proofs.place.place.Goals as goal
 
-pub returns-in-err-lanes : goal.returns-in-err-lanes
-returns-in-err-lanes g c =
+pub returns-in_err-lanes : goal.returns-in_err-lanes
+returns-in_err-lanes g c =
     let list = c.args.list.now in
-    let p = err_from_is_err_and c.from-residual.result c.from-residual.ensures.1 in
+    let p = err_from_is_err_and c.from_residual.result c.from_residual.ensures.1 in
     let long : length c.args.plan.now ≡ length (tasks_of list) = omega arith in
     rw (p.1, p.2)
-    (none_fitted (g.F.FitTest.yes c.args.test.now) list.lanes (tasks_of list) c.args.plan.now long c.in-err-lanes.field-0.0 c.in-err-lanes.ensures, refl)
+    (none_fitted (g.F.FitTest.yes c.args.test.now) list.lanes (tasks_of list) c.args.plan.now long c.in_err-lanes.field-0.0 c.in_err-lanes.ensures, refl)
 
 pub returns : goal.returns
 returns g c =
     let list = c.args.list.now in
     let tasks = tasks_of list in
     let yes-to = g.F.FitTest.yes c.args.test.now in
-    let lanes = c.in-ok-lanes.lanes in
-    let room : length tasks ≤ length lanes = omega (arith, length-tasks list, c.in-ok-lanes.ensures.0) in
+    let lanes = c.in_ok-lanes.lanes in
+    let room : length tasks ≤ length lanes = omega (arith, length-tasks list, c.in_ok-lanes.ensures.0) in
     let whole : length tasks ≡ c.len-count.result - 0 = omega arith in
     subst (λ (plan : List ℕ). Places yes-to list.lanes tasks plan × Passes yes-to list.lanes tasks plan)
-    (ap (λ (n : ℕ). take n lanes) whole ∙ sym c.copy-from-slice.ensures.after)
-    (placed_front yes-to list.lanes tasks lanes room c.in-ok-lanes.ensures.1)
+    (ap (λ (n : ℕ). take n lanes) whole ∙ sym c.copy_from_slice.ensures.after)
+    (placed_front yes-to list.lanes tasks lanes room c.in_ok-lanes.ensures.1)

@@ -6,14 +6,14 @@ use Rattle.script.proofs.Sessions.{said-one_more, said_to_end, said_until}
 use Rattle.words.specs.Lines.{lines_left}
 use Rattle.script.proofs.session.read_calls.Goals as goal
 
-pub returns-in-default-call : goal.returns-in-default-call
-returns-in-default-call c =
-    said_until (lines_left c.args.lines) (lines_left c.loop-line.lines) (lines_left c.next.new.self) c.in-Some.line.now (calls_of (vec_items c.loop-line.entries)) c.in-Some.ensures c.in-default-call.ensures c.loop-line.invariant
+pub returns-in_default-call : goal.returns-in_default-call
+returns-in_default-call c =
+    said_until (lines_left c.args.lines) (lines_left c.loop-line.lines) (lines_left c.next.new.self) c.in-Some.line.now (calls_of (vec_items c.loop-line.entries)) c.in-Some.ensures c.in_default-call.ensures c.loop-line.invariant
 
 pub loop-line-preserved : goal.loop-line-preserved
 loop-line-preserved c =
-    said-one_more (lines_left c.args.lines) (lines_left c.loop-line.lines) (lines_left c.next.new.self) c.in-Some.line.now (calls_of (vec_items c.loop-line.entries)) (calls_of (vec_items c.push.new.self)) c.in-Some-call.found c.in-Some.ensures c.in-Some-call.ensures (ap calls_of c.in-ok-push.ensures.items ∙ map-append (λ (e : Entry). e.call) (vec_items c.loop-line.entries) _) c.loop-line.invariant
+    said-one_more (lines_left c.args.lines) (lines_left c.loop-line.lines) (lines_left c.next.new.self) c.in-Some.line.now (calls_of (vec_items c.loop-line.entries)) (calls_of (vec_items c.push.new.self)) c.in-Some-call.found c.in-Some.ensures c.in-Some-call.ensures (ap calls_of c.in_ok-push.ensures.items ∙ map-append (λ (e : Entry). e.call) (vec_items c.loop-line.entries) _) c.loop-line.invariant
 
 pub returns : goal.returns
 returns c =
-    said_to_end (lines_left c.args.lines) (lines_left c.loop-line.lines) (calls_of (vec_items c.loop-line.entries)) c.in-default.ensures.0 c.loop-line.invariant
+    said_to_end (lines_left c.args.lines) (lines_left c.loop-line.lines) (calls_of (vec_items c.loop-line.entries)) c.in_default.ensures.0 c.loop-line.invariant

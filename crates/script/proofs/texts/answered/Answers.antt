@@ -8,8 +8,8 @@ returns c =
     let text = vec_items c.args.text.now in
     let line = c.args.line.now in
     let said = answer_text c.args.given in
-    c.in-ok-extend-from-slice-3.ensures.items
-    ∙ ap (λ v. v ++ codes "\n") (c.in-ok-answer.ensures
-    ∙ ap (λ v. v ++ said) (c.in-ok-extend-from-slice-2.ensures.items
-    ∙ ap (λ v. v ++ codes " = ") c.in-ok-extend-from-slice.ensures.items))
+    c.in_ok-extend_from_slice-3.ensures.items
+    ∙ ap (λ v. v ++ codes "\n") (c.in_ok-answer.ensures
+    ∙ ap (λ v. v ++ said) (c.in_ok-extend_from_slice-2.ensures.items
+    ∙ ap (λ v. v ++ codes " = ") c.in_ok-extend_from_slice.ensures.items))
     ∙ four_parts text line (codes " = ") said (codes "\n")

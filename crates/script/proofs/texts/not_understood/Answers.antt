@@ -3,5 +3,5 @@ use Rattle.script.proofs.texts.not_understood.Goals as goal
 
 pub returns : goal.returns
 returns c =
-    c.in-ok-extend-from-slice.ensures.items
-    ∙ ap (λ more. vec_items c.args.text.now ++ more) (c.as-bytes.ensures.value ∙ c.in-ok-words.ensures.ok)
+    c.in_ok-extend_from_slice.ensures.items
+    ∙ ap (λ more. vec_items c.args.text.now ++ more) (c.as_bytes.ensures.value ∙ c.in_ok-words.ensures.ok)

@@ -4,4 +4,4 @@ use Rattle.sheet.proofs.reader.number_at.Goals as goal
 
 pub returns : goal.returns
 returns c =
-    four_front c.args.bytes.now c.args.at _ c.requires (search rules) (search rules) (search rules) (search rules) c.from-be-bytes.ensures
+    four_front c.args.bytes.now c.args.at _ c.requires (search rules) (search rules) (search rules) (search rules) c.from_be_bytes.ensures

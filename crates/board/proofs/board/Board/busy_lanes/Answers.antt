@@ -12,8 +12,8 @@ loop-lane-init c =
     let m = b.seats.list.lanes in
     (omega (arith, c.lanes-lane.ensures), sym (ap (byte_from (busy (view b)) m) c.lanes-lane.ensures ∙ byte_none (busy (view b)) m))
 
-pub with-low-bit-byte-requires : goal.with-low-bit-byte-requires
-with-low-bit-byte-requires c =
+pub with_low_bit-byte-requires : goal.with_low_bit-byte-requires
+with_low_bit-byte-requires c =
     let b = c.args.self.now in
     let m = b.seats.list.lanes in
     let fits = byte_fits (busy (view b)) m c.loop-lane.lane b.seats.list.lane_range.1 in
@@ -26,8 +26,8 @@ loop-lane-preserved c =
     let lane = c.loop-lane.lane in
     let more = byte_more (busy (view b)) m lane c.loop-lane-test.true c.loop-lane.invariant.0 in (
       omega (arith, c.loop-lane.invariant.0),
-      c.with-low-bit-byte.ensures
-          ∙ (ap (λ (low : Bool). cond low 1 0 + 2 * c.loop-lane.byte) c.is-busy.ensures
+      c.with_low_bit-byte.ensures
+          ∙ (ap (λ (low : Bool). cond low 1 0 + 2 * c.loop-lane.byte) c.is_busy.ensures
           ∙ (ap (λ (n : ℕ). cond (busy (view b) (lane - 1)) 1 0 + 2 * n) c.loop-lane.invariant.1 ∙ more)),
     )
 

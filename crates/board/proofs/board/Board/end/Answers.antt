@@ -10,8 +10,8 @@ pub returns : goal.returns
 returns c =
     let b = c.args.self.now in
     let finished = c.args.finished in
-    let served = c.serve-lanes-closed.ensures in (
-      passed (SlotShut b.clock) _ (ap not c.if-not-self.false) ∙ c.in-ok-all-served.ensures,
-      ap answer.Ended (closed_bits b finished c.serve-lanes-closed.result c.serve-lanes-closed.new.self served),
-      ended b finished c.serve-lanes-closed.result c.serve-lanes-closed.new.self served,
+    let served = c.serve_lanes-closed.ensures in (
+      passed (SlotShut b.clock) _ (ap not c.if-not-self.false) ∙ c.in_ok-all_served.ensures,
+      ap answer.Ended (closed_bits b finished c.serve_lanes-closed.result c.serve_lanes-closed.new.self served),
+      ended b finished c.serve_lanes-closed.result c.serve_lanes-closed.new.self served,
     )

@@ -9,7 +9,7 @@ use Rattle.board.proofs.board.Board.is_busy.Goals as goal
 pub returns-then-lane-lanes : goal.returns-then-lane-lanes
 returns-then-lane-lanes c =
     let b = c.args.self.now in
-    c.is-some.ensures
+    c.is_some.ensures
     ∙ (ap is_some c.served.ensures
     ∙ sym (busy-is (tasks_on b.seats) b.seats.list.lanes (plan_of b.seats) (standings_on b) b.clock b.slot_open c.args.lane (omega (arith, c.lanes.ensures))))
 

@@ -15,17 +15,17 @@ returns-then-self-next c =
     let b = c.args.self.now in
     let task = c.args.task in
     let inside : task < length (tasks_on b.seats) = omega (arith, c.count.ensures) in
-    let next = c.next-release-next.ensures ∙ ap (λ (t : TaskRecord). next_release t (stands_at (standings_on b) task)) c.task-numbers.ensures in
-    (post_early b task inside c.if-self.false c.next-release-next.result next c.if-self-next.true, refl)
+    let next = c.next_release-next.ensures ∙ ap (λ (t : TaskRecord). next_release t (stands_at (standings_on b) task)) c.task-numbers.ensures in
+    (post_early b task inside c.if-self.false c.next_release-next.result next c.if-self-next.true, refl)
 
 pub returns-then-not-post : goal.returns-then-not-post
 returns-then-not-post c =
     let b = c.args.self.now in
     let task = c.args.task in
     let inside : task < length (tasks_on b.seats) = omega (arith, c.count.ensures) in
-    let next = c.next-release-next.ensures ∙ ap (λ (t : TaskRecord). next_release t (stands_at (standings_on b) task)) c.task-numbers.ensures in
+    let next = c.next_release-next.ensures ∙ ap (λ (t : TaskRecord). next_release t (stands_at (standings_on b) task)) c.task-numbers.ensures in
     let full = c.if-not-post.ensures.taken in (
-      post_full b task inside c.if-self.false c.next-release-next.result next c.if-self-next.false full.0,
+      post_full b task inside c.if-self.false c.next_release-next.result next c.if-self-next.false full.0,
       ap (λ (ss : List Standing). board_of (tasks_on b.seats) b.seats.list.lanes (plan_of b.seats) ss b.clock b.slot_open) full.1,
     )
 
@@ -34,9 +34,9 @@ returns c =
     let b = c.args.self.now in
     let task = c.args.task in
     let inside : task < length (tasks_on b.seats) = omega (arith, c.count.ensures) in
-    let next = c.next-release-next.ensures ∙ ap (λ (t : TaskRecord). next_release t (stands_at (standings_on b) task)) c.task-numbers.ensures in
+    let next = c.next_release-next.ensures ∙ ap (λ (t : TaskRecord). next_release t (stands_at (standings_on b) task)) c.task-numbers.ensures in
     let taken = c.if-not-post.ensures.taken in (
-      post_open b task inside c.if-self.false c.next-release-next.result next c.if-self-next.false taken.0,
+      post_open b task inside c.if-self.false c.next_release-next.result next c.if-self-next.false taken.0,
       ap (λ (n : ℕ). answer.Posted (b.clock + n)) (c.from.ensures ∙ ap (λ (t : TaskRecord). t.limit) c.task-numbers.ensures),
       ap (λ (ss : List Standing). board_of (tasks_on b.seats) b.seats.list.lanes (plan_of b.seats) ss b.clock b.slot_open) taken.1
           ∙ (sym (view_with b task inside (with_job b.clock (stands_at (standings_on b) task)))

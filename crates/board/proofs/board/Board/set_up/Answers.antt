@@ -24,7 +24,7 @@ returns g c =
     let list = c.args.list.now in
     let seats = c.new.result in
     let start = c.args.start in (
-      c.in-ok-check.ensures.0,
+      c.in_ok-check.ensures.0,
       omega arith,
       ap (λ (ss : List Standing). board_of (tasks_on seats) seats.list.lanes (plan_of seats) ss start false) c.none.ensures.stands
           ∙ (ap (λ (p : List ℕ). board_of (tasks_on seats) seats.list.lanes p (replicate 32 unreleased) start false) c.new.ensures.plan

@@ -7,4 +7,4 @@ use Rattle.board.proofs.jobs.Jobs.is_waiting.Goals as goal
 pub returns : goal.returns
 returns c =
     let jobs = c.args.self.now in
-    c.is-waiting.ensures ∙ ap (has_job) (stands_read jobs.queues c.args.number c.index-self-number.result (omega (arith, jobs.long, c.requires)))
+    c.is_waiting.ensures ∙ ap (has_job) (stands_read jobs.queues c.args.number c.index-self-number.result (omega (arith, jobs.long, c.requires)))

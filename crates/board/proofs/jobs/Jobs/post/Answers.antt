@@ -5,8 +5,8 @@ use Rattle.board.specs.Seating.{plan_of, tasks_on}
 use Rattle.board.proofs.Next.{looked_anew, on_lane}
 use Rattle.board.proofs.jobs.Jobs.post.Goals as goal
 
-pub first-waiting-requires : goal.first-waiting-requires
-first-waiting-requires c =
+pub first_waiting-requires : goal.first_waiting-requires
+first_waiting-requires c =
     let seats = c.args.seats.now in
     omega (arith, c.lane-lane.ensures, on_lane seats c.args.number c.requires.inside, seats.list.lane_range.1)
 
@@ -19,10 +19,10 @@ pub returns : goal.returns
 returns c =
     let jobs = c.args.self.now in
     let seats = c.args.seats.now in
-    let taken = c.if-not-post-at.ensures in
+    let taken = c.if-not-post_at.ensures in
     record {
       taken = taken;
-      at-hand =
-          looked_anew (tasks_on seats) (plan_of seats) (map standing jobs.queues) jobs.next c.requires.at-hand c.args.number _
-          (map standing c.post-at.new.queues) taken.1 jobs.four c.lane-lane.result (sym c.lane-lane.ensures) c.first_waiting.result c.first_waiting.ensures;
+      at_hand =
+          looked_anew (tasks_on seats) (plan_of seats) (map standing jobs.queues) jobs.next c.requires.at_hand c.args.number _
+          (map standing c.post_at.new.queues) taken.1 jobs.four c.lane-lane.result (sym c.lane-lane.ensures) c.first_waiting.result c.first_waiting.ensures;
     }

@@ -14,34 +14,34 @@ use Rattle.board.proofs.jobs.Jobs.serve.Goals as goal
 abbrev At-hand : Seats → Jobs → Type 0
 At-hand seats jobs = AreNext (tasks_on seats) (plan_of seats) (map standing jobs.queues) jobs.next
 
-module _ (seats : Seats) (jobs : Jobs) (at-hand : At-hand seats jobs) (lane : ℕ) (h : lane < 4) (n : ℕ) (is : Some n ≡ get_or jobs.next lane None) where
+module _ (seats : Seats) (jobs : Jobs) (at_hand : At-hand seats jobs) (lane : ℕ) (h : lane < 4) (n : ℕ) (is : Some n ≡ get_or jobs.next lane None) where
   there : (n < length (tasks_on seats)) × (lane_of (plan_of seats) n ≡ lane)
-  there = next_there (tasks_on seats) (plan_of seats) (map standing jobs.queues) jobs.next at-hand lane h n is
+  there = next_there (tasks_on seats) (plan_of seats) (map standing jobs.queues) jobs.next at_hand lane h n is
 
   inside : n < length jobs.queues
   inside = omega (arith, there.0, length-tasks seats.list, jobs.long)
 
 pub task-requires : goal.task-requires
-task-requires c = (there c.args.seats.now c.args.self.now c.requires.at-hand c.args.lane c.requires.lane c.in-Some.number c.in-Some.ensures).0
+task-requires c = (there c.args.seats.now c.args.self.now c.requires.at_hand c.args.lane c.requires.lane c.in-Some.number c.in-Some.ensures).0
 
-pub serve-at-requires : goal.serve-at-requires
-serve-at-requires c = inside c.args.seats.now c.args.self.now c.requires.at-hand c.args.lane c.requires.lane c.in-Some.number c.in-Some.ensures
+pub serve_at-requires : goal.serve_at-requires
+serve_at-requires c = inside c.args.seats.now c.args.self.now c.requires.at_hand c.args.lane c.requires.lane c.in-Some.number c.in-Some.ensures
 
-pub returns-then-not-serve-at : goal.returns-then-not-serve-at
-returns-then-not-serve-at c =
+pub returns-then-not-serve_at : goal.returns-then-not-serve_at
+returns-then-not-serve_at c =
     let jobs = c.args.self.now in
     let seats = c.args.seats.now in
     let ss = map standing jobs.queues in
     let lane = c.args.lane in
     let n = c.in-Some.number in
-    let within = inside seats jobs c.requires.at-hand lane c.requires.lane n c.in-Some.ensures in
-    let served = c.if-not-serve-at.ensures in
+    let within = inside seats jobs c.requires.at_hand lane c.requires.lane n c.in-Some.ensures in
+    let served = c.if-not-serve_at.ensures in
     record {
       served =
-          given_to (tasks_on seats) (plan_of seats) ss jobs.next c.requires.at-hand lane c.requires.lane n c.in-Some.ensures
-          c.task.result c.task.ensures c.args.said _ (map standing c.serve-at.new.queues) served.closed served.after;
-      at-hand =
-          nothing_new (tasks_on seats) (plan_of seats) ss jobs.next c.requires.at-hand n _ (map standing c.serve-at.new.queues) served.after
+          given_to (tasks_on seats) (plan_of seats) ss jobs.next c.requires.at_hand lane c.requires.lane n c.in-Some.ensures
+          c.task.result c.task.ensures c.args.said _ (map standing c.serve_at.new.queues) served.closed served.after;
+      at_hand =
+          nothing_new (tasks_on seats) (plan_of seats) ss jobs.next c.requires.at_hand n _ (map standing c.serve_at.new.queues) served.after
           (omega (arith, within, length-map jobs.queues standing)) (still_waits c.task.result c.args.said (stands_at ss n) (sym served.closed));
     }
 
@@ -52,13 +52,13 @@ returns c =
     let ss = map standing jobs.queues in
     let lane = c.args.lane in
     let n = c.in-Some.number in
-    let on = (there seats jobs c.requires.at-hand lane c.requires.lane n c.in-Some.ensures).1 in
-    let served = c.if-not-serve-at.ensures in
+    let on = (there seats jobs c.requires.at_hand lane c.requires.lane n c.in-Some.ensures).1 in
+    let served = c.if-not-serve_at.ensures in
     record {
       served =
-          given_to (tasks_on seats) (plan_of seats) ss jobs.next c.requires.at-hand lane c.requires.lane n c.in-Some.ensures
-          c.task.result c.task.ensures c.args.said _ (map standing c.serve-at.new.queues) served.closed served.after;
-      at-hand =
-          looked_anew (tasks_on seats) (plan_of seats) ss jobs.next c.requires.at-hand n _ (map standing c.serve-at.new.queues) served.after
+          given_to (tasks_on seats) (plan_of seats) ss jobs.next c.requires.at_hand lane c.requires.lane n c.in-Some.ensures
+          c.task.result c.task.ensures c.args.said _ (map standing c.serve_at.new.queues) served.closed served.after;
+      at_hand =
+          looked_anew (tasks_on seats) (plan_of seats) ss jobs.next c.requires.at_hand n _ (map standing c.serve_at.new.queues) served.after
           jobs.four lane on c.first_waiting.result c.first_waiting.ensures;
     }

@@ -18,11 +18,11 @@ front n plan lanes long e = subst (λ (m : ℕ). take m lanes ≡ plan) long e
 turns-are : (tasks : List TaskRecord) (numbers : List ℕ) (n : ℕ) → n ≡ length tasks → take (length tasks) numbers ≡ order tasks → take (n - 0) numbers ≡ order tasks
 turns-are tasks numbers n e is = let m : n - 0 ≡ length tasks = omega arith in ap (λ (k : ℕ). take k numbers) m ∙ is
 
-pub rows-of-requires : goal.rows-of-requires
-rows-of-requires c =
+pub rows_of-requires : goal.rows_of-requires
+rows_of-requires c =
     let tasks = tasks_of c.args.list.now in
     let plan = c.args.plan.now in
-    let turns = turns-are tasks c.numbers-in-order-numbers.result c.len.result c.len.ensures c.numbers-in-order-numbers.ensures.ordered in
+    let turns = turns-are tasks c.numbers_in_order-numbers.result c.len.result c.len.ensures c.numbers_in_order-numbers.ensures.ordered in
     record {
       few = omega (arith, ap length turns, length-order tasks, length-tasks c.args.list.now);
       planned =
@@ -35,13 +35,13 @@ invariant-of-result c =
     let list = c.args.list.now in
     let tasks = tasks_of list in
     let is = front (length tasks) c.args.plan.now c.padded.result c.requires.long c.padded.ensures.front in
-    let turns = turns-are tasks c.numbers-in-order-numbers.result c.len.result c.len.ensures c.numbers-in-order-numbers.ensures.ordered in (
+    let turns = turns-are tasks c.numbers_in_order-numbers.result c.len.result c.len.ensures c.numbers_in_order-numbers.ensures.ordered in (
       c.padded.ensures.long,
       (
-        c.rows-of.ensures.four,
+        c.rows_of.ensures.four,
         (
           λ lane h.
-              c.rows-of.ensures.rows lane h
+              c.rows_of.ensures.rows lane h
               ∙ (ap (numbers_among c.args.plan.now lane) turns ∙ ap (λ (p : List ℕ). numbers_of tasks p lane) (sym is)),
           (
             λ number h.

@@ -6,19 +6,19 @@ use Rattle.queue.specs.Queue.{held}
 use Rattle.board.specs.Queues.{standing}
 use Rattle.board.proofs.Queue.{held_more, length-standing}
 use Rattle.board.proofs.task_queue.TaskQueue.count.Goals as goal
-use Rattle.board.proofs.task_queue.TaskQueue.count.Goals.{then-is-some, else-is-some}
+use Rattle.board.proofs.task_queue.TaskQueue.count.Goals.{then-is_some, else-is_some}
 
 pub loop-place-preserved : goal.loop-place-preserved
 loop-place-preserved c =
     let places = c.args.self.now.places in
     let i = c.loop-place.place-index in
     let step = held_more places i (omega (arith, c.loop-place-test.true, c.args.self.now.four)) in
-    elim c.if-is-some.branch [
-      | then-is-some w ↦
-          let one : cond (is_some (get_or places i None)) 1 0 ≡ 1 = ap {B = ℕ} (λ b. cond b 1 0) (sym c.is-some.ensures ∙ w.if-is-some.true) in
+    elim c.if-is_some.branch [
+      | then-is_some w ↦
+          let one : cond (is_some (get_or places i None)) 1 0 ≡ 1 = ap {B = ℕ} (λ b. cond b 1 0) (sym c.is_some.ensures ∙ w.if-is_some.true) in
           (omega (arith, w.waiting-is), omega (arith, w.waiting-is, step, one, c.loop-place.invariant.1))
-      | else-is-some w ↦
-          let none : cond (is_some (get_or places i None)) 1 0 ≡ 0 = ap {B = ℕ} (λ b. cond b 1 0) (sym c.is-some.ensures ∙ w.if-is-some.false) in
+      | else-is_some w ↦
+          let none : cond (is_some (get_or places i None)) 1 0 ≡ 0 = ap {B = ℕ} (λ b. cond b 1 0) (sym c.is_some.ensures ∙ w.if-is_some.false) in
           (omega (arith, w.waiting-is), omega (arith, w.waiting-is, step, none, c.loop-place.invariant.1))
     ]
 

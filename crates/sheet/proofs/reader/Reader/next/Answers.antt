@@ -33,8 +33,8 @@ returns c =
     let bytes = c.args.self.now.bytes.now in
     let at = c.args.self.now.at in
     let n = c.from-count.result in
-    let r = c.record-at.ensures in
-    let e = entry_said c.record-at.result in
+    let r = c.record_at.ensures in
+    let e = entry_said c.record_at.result in
     let inside = c.if-at-bytes.false in
     let few : 12 ≤ n = omega arith in
     let many : n ≤ 32 = omega arith in
@@ -43,7 +43,7 @@ returns c =
       r.name_at,
       record {
         spelled = entry_there bytes at inside n c.from-count.ensures few many past e r.name r.work r.limit r.gap;
-        spellable = record { work_fits = search rules; limit_fits = search rules; gap_fits = search rules; name_fits = omega arith; name_prints = name_prints bytes at inside n c.from-count.ensures few many past e r.name c.in-default.ensures };
+        spellable = record { work_fits = search rules; limit_fits = search rules; gap_fits = search rules; name_fits = omega arith; name_prints = name_prints bytes at inside n c.from-count.ensures few many past e r.name c.in_default.ensures };
         at = omega arith;
         bytes = refl;
         grid = refl;
