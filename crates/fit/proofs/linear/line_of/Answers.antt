@@ -8,8 +8,8 @@ is-line : (c : goal.After-share_of)
     → c.args.grid * c.args.t.work + c.share_of.result * c.args.time ≡ line c.args.grid c.args.time c.args.t
 is-line c = ap (λ n. c.args.grid * c.args.t.work + n * c.args.time) c.share_of.ensures.value
 
-pub overflow-add-result : goal.overflow-add-result
-overflow-add-result c =
+pub overflow_add-result : goal.overflow_add-result
+overflow_add-result c =
     record { fits = omega (arith, is-line c, line-bound c.args.grid c.args.time c.args.t c.requires.in_range c.requires.in_time c.requires.bounded) }
 
 pub returns : goal.returns

@@ -20,8 +20,8 @@ bounds-plan-number g c =
     let at = number_in_turn (tasks_of c.args.list.now) _ c.numbers_in_order-turns.ensures.ordered c.loop-turn.turn (omega arith) in
     omega (arith, at.1)
 
-pub offset-bounds-records-number : goal.offset-bounds-records-number
-offset-bounds-records-number g c =
+pub offset_bounds-records-number : goal.offset_bounds-records-number
+offset_bounds-records-number g c =
     let at = number_in_turn (tasks_of c.args.list.now) _ c.numbers_in_order-turns.ensures.ordered c.loop-turn.turn (omega arith) in
     omega (arith, at.1, length-tasks c.args.list.now)
 

@@ -17,8 +17,8 @@ pub loop-turn-init : goal.loop-turn-init
 loop-turn-init g c =
     (refl, turned_start (tasks_of c.args.list.now) _ c.empty-rows.result.lanes c.empty-rows.ensures, λ j l. absurd (omega arith))
 
-pub offset-bounds-records-number : goal.offset-bounds-records-number
-offset-bounds-records-number g c =
+pub offset_bounds-records-number : goal.offset_bounds-records-number
+offset_bounds-records-number g c =
     let at = number_in_turn (tasks_of c.args.list.now) _ c.numbers_in_order-turns.ensures.ordered c.loop-turn.turn (omega arith) in
     omega (arith, at.1, length-tasks c.args.list.now)
 

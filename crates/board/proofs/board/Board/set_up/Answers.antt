@@ -11,13 +11,15 @@ use Rattle.board.proofs.Next.{none-next}
 use Rattle.board.proofs.View.{fresh_board}
 use Rattle.board.proofs.board.Board.set_up.Goals as goal
 
-pub invariant-of-self : goal.invariant-of-self
-invariant-of-self g c =
+pub invariant_of-self : goal.invariant_of-self
+invariant_of-self g c =
     let seats = c.new.result in
-    let jobs = c.none.result in (
-      none-next (tasks_on seats) (plan_of seats) (map standing jobs.queues) jobs.next c.none.ensures.stands c.none.ensures.idle,
-      (omega arith, (λ e. absurd (false≢true e), tt)),
-    )
+    let jobs = c.none.result in
+    record {
+      at_hand = none-next (tasks_on seats) (plan_of seats) (map standing jobs.queues) jobs.next c.none.ensures.stands c.none.ensures.idle;
+      in_time = omega arith;
+      open_in_time = λ e. absurd (false≢true e);
+    }
 
 pub returns : goal.returns
 returns g c =

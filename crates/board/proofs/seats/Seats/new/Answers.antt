@@ -30,28 +30,25 @@ rows_of-requires c =
           (λ k h. let within = turn-within tasks k (omega (arith, length-order tasks)) in omega (arith, within, c.requires.long));
     }
 
-pub invariant-of-result : goal.invariant-of-result
-invariant-of-result c =
+pub invariant_of-result : goal.invariant_of-result
+invariant_of-result c =
     let list = c.args.list.now in
     let tasks = tasks_of list in
     let is = front (length tasks) c.args.plan.now c.padded.result c.requires.long c.padded.ensures.front in
-    let turns = turns-are tasks c.numbers_in_order-numbers.result c.len.result c.len.ensures c.numbers_in_order-numbers.ensures.ordered in (
-      c.padded.ensures.long,
-      (
-        c.rows_of.ensures.four,
-        (
+    let turns = turns-are tasks c.numbers_in_order-numbers.result c.len.result c.len.ensures c.numbers_in_order-numbers.ensures.ordered in
+    record {
+      lanes_long = c.padded.ensures.long;
+      four_rows = c.rows_of.ensures.four;
+      in_rows =
           λ lane h.
-              c.rows_of.ensures.rows lane h
-              ∙ (ap (numbers_among c.args.plan.now lane) turns ∙ ap (λ (p : List ℕ). numbers_of tasks p lane) (sym is)),
-          (
-            λ number h.
-                let read = get_or-take (length tasks) c.padded.result number 0 h in
-                subst (λ (n : ℕ). n < list.lanes) (ap (λ (ns : List ℕ). get_or ns number 0) (sym is) ∙ read) (c.requires.on_lanes number h),
-            (subst (LanesAreSafe list.lanes tasks) (sym is) c.requires.safe, tt),
-          ),
-        ),
-      ),
-    )
+          c.rows_of.ensures.rows lane h
+          ∙ (ap (numbers_among c.args.plan.now lane) turns ∙ ap (λ (p : List ℕ). numbers_of tasks p lane) (sym is));
+      on_lanes =
+          λ number h.
+          let read = get_or-take (length tasks) c.padded.result number 0 h in
+          subst (λ (n : ℕ). n < list.lanes) (ap (λ (ns : List ℕ). get_or ns number 0) (sym is) ∙ read) (c.requires.on_lanes number h);
+      safe = subst (LanesAreSafe list.lanes tasks) (sym is) c.requires.safe;
+    }
 
 pub returns : goal.returns
 returns c = record { list = refl; plan = front (length (tasks_of c.args.list.now)) c.args.plan.now c.padded.result c.requires.long c.padded.ensures.front }

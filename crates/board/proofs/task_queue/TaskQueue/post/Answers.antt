@@ -6,17 +6,17 @@ use Rattle.board.specs.Queues.{jobs_of, standing}
 use Rattle.board.proofs.Queue.{jobs_push, length_releases, length-standing, none_later, put_room, releases, releases_full, releases_put, stand}
 use Rattle.board.proofs.task_queue.TaskQueue.post.Goals as goal
 
-pub invariant-of-self : goal.invariant-of-self
+pub invariant_of-self : goal.invariant_of-self
 unfolding standing
-invariant-of-self c =
+invariant_of-self c =
     let q = c.args.self.now in
-    let put = c.in-Ok.ensures in (
-      ap length put.after ∙ (length-set q.places put.place _ ∙ q.four),
-      (
-        none_later q.last c.args.clock c.requires.1 q.places q.no_later _ refl c.put.new.places put,
-        (c.requires.0, (λ e. absurd (omega (arith, e, put.counted (λ _. true))), tt)),
-      ),
-    )
+    let put = c.in-Ok.ensures in
+    record {
+      four = ap length put.after ∙ (length-set q.places put.place _ ∙ q.four);
+      no_later = none_later q.last c.args.clock c.requires.1 q.places q.no_later _ refl c.put.new.places put;
+      in_time = c.requires.0;
+      idle = λ e. absurd (omega (arith, e, put.counted (λ _. true)));
+    }
 
 pub returns-in-Ok : goal.returns-in-Ok
 unfolding standing

@@ -6,12 +6,17 @@ use Rattle.board.proofs.Queue.{goes_on, length_jobs, length-standing, none_later
 use Rattle.board.proofs.task_queue.TaskQueue.serve.Goals as goal
 use Rattle.board.proofs.task_queue.TaskQueue.serve.Goals.{then-is_waiting, else-is_waiting, else-not-said-via-then-not-said+else-self-saturating_sub, else-not-said-via-else-not-said}
 
-pub invariant-of-self : goal.invariant-of-self
+pub invariant_of-self : goal.invariant_of-self
 unfolding standing
-invariant-of-self c =
+invariant_of-self c =
     let q = c.args.self.now in
     let some = waits-some (standing q).waiting c.if-is_waiting.ensures in
-    (q.four, (q.no_later, (q.in_time, ((λ e. absurd (omega (arith, e, some, length-standing q.last q.places q.served))), tt))))
+    record {
+      four = q.four;
+      no_later = q.no_later;
+      in_time = q.in_time;
+      idle = λ e. absurd (omega (arith, e, some, length-standing q.last q.places q.served));
+    }
 
 pub returns-then-self-saturating_sub : goal.returns-then-self-saturating_sub
 unfolding standing
@@ -35,11 +40,11 @@ either_true : {b : Bool} (a : Bool) → b ≡ true → a || b ≡ true
 either_true true e = refl
 either_true false e = e
 
-pub invariant-of-self-2 : goal.invariant-of-self-2
-invariant-of-self-2 c =
+pub invariant_of-self-2 : goal.invariant_of-self-2
+invariant_of-self-2 c =
     let q = c.args.self.now in
     let left = none_later_left q.last q.places q.no_later c.take.result c.take.new.places c.take.ensures in
-    (omega (arith, c.take.auto.places, q.four), (left, (q.in_time, (λ _. refl, tt))))
+    record { four = omega (arith, c.take.auto.places, q.four); no_later = left; in_time = q.in_time; idle = λ _. refl }
 
 pub returns : goal.returns
 unfolding standing
