@@ -1,5 +1,5 @@
 -- The task that a lane serves next: which one it can be, and what a change of one task leaves of it.
-use Rattle.std.proofs.Common.{◌≡◌, ℕ, ◌<◌, Bool, true, false, cond, ◌&&◌, eqb, ◌≢◌, List, [], ◌∷◌, length, get_or, set, replicate, IfSome, Some, None, Option, sym, refl, ap, ◌∙◌, subst, ⊎_elim, arith}
+use Rattle.std.proofs.Common.{◌≡◌, ℕ, ◌<◌, ◌≤◌, Bool, true, false, cond, ◌&&◌, eqb, ◌≢◌, List, [], ◌∷◌, length, get_or, set, replicate, IfSome, Some, None, Option, sym, refl, ap, ◌∙◌, subst, ⊎_elim, arith}
 use Rattle.std.specs.List.{AllByRecursion as All}
 use Rattle.std.proofs.ByRecursion.{All-from_get_or}
 use Rattle.std.proofs.lemmas.List.{get_or-replicate, get_or-set_other, get_or-set_same, get_or-take}
@@ -54,6 +54,13 @@ module _ (plan : List ℕ) (lane : ℕ) where
       cond-false (serves ss n) (Some n) (next_on plan lane ss ns) (and_right (eqb (lane_of plan n) lane) (has_job (stands_at ss n)) (h n))
       ∙ next-none ss h ns
 
+  -- Where no task sits on the lane there is none.
+  next_past : (ss : List Standing) (ns : List ℕ) → All (λ n. lane_of plan n ≢ lane) ns → next_on plan lane ss ns ≡ None
+  next_past ss [] a = refl
+  next_past ss (n ∷ ns) a =
+      cond-false (serves ss n) (Some n) (next_on plan lane ss ns) (and_left (eqb (lane_of plan n) lane) (has_job (stands_at ss n)) (ne_eqb (lane_of plan n) lane a.0))
+      ∙ next_past ss ns a.1
+
   -- It is one of these numbers, and sits on the lane.
   next_such :
       (P : ℕ → Type 0) (ss : List Standing) (ns : List ℕ) → All P ns
@@ -88,6 +95,29 @@ module _ (plan : List ℕ) (lane : ℕ) where
         (λ (e : m ≡ n → ⊥). ap has_job (get_or-set_other ss n m s unreleased e))
         (cases_eq m n)))
 
+each_turn_inside : (tasks : List TaskRecord) → All (λ m. m < length tasks) (order tasks)
+each_turn_inside tasks = All-from_get_or (λ m. m < length tasks) (order tasks) 0 (λ i l. turn-within tasks i (omega (arith, length-order tasks)))
+
+first_part : (P Q : ℕ → Type 0) (o : Option ℕ) → IfSome o (λ n. P n × Q n) → IfSome o P
+first_part P Q None h = tt
+first_part P Q (Some n) h = h.0
+
+-- The task that a lane serves is one of the list.
+pub next_inside :
+    (tasks : List TaskRecord) (plan : List ℕ) (lane : ℕ) (ss : List Standing) → IfSome (next_on plan lane ss (order tasks)) (λ n. n < length tasks)
+next_inside tasks plan lane ss =
+    first_part (λ n. n < length tasks) (λ n. lane_of plan n ≡ lane) (next_on plan lane ss (order tasks))
+    (next_such plan lane (λ m. m < length tasks) ss (order tasks) (each_turn_inside tasks))
+
+-- No task sits past the four lanes, so that no such lane serves one.
+pub none_past : (seats : Seats) (lane : ℕ) → 4 ≤ lane → (ss : List Standing) → next_on (plan_of seats) lane ss (order (tasks_on seats)) ≡ None
+none_past seats lane past ss =
+    next_past (plan_of seats) lane ss (order (tasks_on seats))
+    (All-from_get_or (λ n. lane_of (plan_of seats) n ≢ lane) (order (tasks_on seats)) 0
+    (λ i l e.
+    let on = on_lane seats (get_or (order (tasks_on seats)) i 0) (turn-within (tasks_on seats) i (omega (arith, length-order (tasks_on seats)))) in
+    absurd (omega (arith, on, e, past, seats.list.lane_range.1))))
+
 module _ (tasks : List TaskRecord) (plan : List ℕ) (ss : List Standing) (next : List (Option ℕ)) (are : AreNext tasks plan ss next) where
   pub next-is : (lane : ℕ) → lane < 4 → get_or next lane None ≡ next_task tasks plan ss lane
   next-is lane h = is_same (get_or next lane None) (next_task tasks plan ss lane) (are lane h)
@@ -97,8 +127,7 @@ module _ (tasks : List TaskRecord) (plan : List ℕ) (ss : List Standing) (next 
       (lane : ℕ) → lane < 4 → (n : ℕ) → Some n ≡ get_or next lane None → (n < length tasks) × (lane_of plan n ≡ lane)
   next_there lane h n e =
       subst (λ (o : Option ℕ). IfSome o (λ m. (m < length tasks) × (lane_of plan m ≡ lane))) (sym (e ∙ next-is lane h))
-      (next_such plan lane (λ m. m < length tasks) ss (order tasks)
-      (All-from_get_or (λ m. m < length tasks) (order tasks) 0 (λ i l. turn-within tasks i (omega (arith, length-order tasks)))))
+      (next_such plan lane (λ m. m < length tasks) ss (order tasks) (each_turn_inside tasks))
 
   module _ (n : ℕ) (s : Standing) (ss' : List Standing) (is : ss' ≡ set ss n s) where
     -- One task has changed, and its lane has looked anew.

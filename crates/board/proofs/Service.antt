@@ -103,12 +103,12 @@ module _ (before : Board) (finished : ℕ) where
     stands : standings_on after ≡ served_by T said ss (next_on P low ss (order T))
     stands =
         subst (λ (seats : Seats). standings_on after ≡ served_by (tasks_on seats) said ss (next_on (plan_of seats) low ss (order (tasks_on seats))))
-        half.same.seats served.slot-given.stands
+        half.same.seats served.stands
 
     closing : closed ≡ elim (next_on P low ss (order T)) [ None ↦ false | Some n ↦ first_closes (record_of T n) said (stands_at ss n).waiting ]
     closing =
         subst (λ (seats : Seats). closed ≡ elim (next_on (plan_of seats) low ss (order (tasks_on seats))) [ None ↦ false | Some n ↦ first_closes (record_of (tasks_on seats) n) said (stands_at ss n).waiting ])
-        half.same.seats served.slot-given.closes
+        half.same.seats served.closes
 
     as_before : lane_of_standings T P ss low ≡ lane_standings (view before) low
     as_before = half.to_do low (omega arith) ∙ sym (lane-stands T lanes P (standings_on before) before.clock before.slot_open low within)

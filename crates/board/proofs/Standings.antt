@@ -22,5 +22,5 @@ module _ (qs : List TaskQueue) (n : ℕ) (q : TaskQueue) (h : n < length qs) whe
       (subst (λ (s : Standing). length s.waiting < 4) stands_read t.0, stands_changed (with_job clock) q' t.1)
   job-taken clock false q' t = (
     subst (λ (s : Standing). 4 ≤ length s.waiting) stands_read t.0,
-    stands_changed (λ (s : Standing). s) q' t.1 ∙ set-get_or (map standing qs) n unreleased,
+    ap (map standing) (ap (set qs n) t.1 ∙ set-get_or qs n q),
   )

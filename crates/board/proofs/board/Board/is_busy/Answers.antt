@@ -10,7 +10,7 @@ pub returns-then-lane-lanes : goal.returns-then-lane-lanes
 returns-then-lane-lanes c =
     let b = c.args.self.now in
     c.is_some.ensures
-    ∙ (ap is_some c.served.ensures
+    ∙ (ap is_some c.served.ensures.value
     ∙ sym (busy-is (tasks_on b.seats) b.seats.list.lanes (plan_of b.seats) (standings_on b) b.clock b.slot_open c.args.lane (omega (arith, c.lanes.ensures))))
 
 pub returns-else-lane-lanes : goal.returns-else-lane-lanes

@@ -29,6 +29,6 @@ returns c =
     let lane = c.args.lane in
     let within : lane < b.seats.list.lanes = omega (arith, c.lanes.ensures) in (
       passed (NoLane lane) _ (lt-leb (length (view b).lanes) lane (omega (arith, length-lanes b))) ∙ passed (SlotShut b.clock) [] (ap not c.if-not-self.false),
-      ap answer.Serving (c.served.ensures ∙ sym (serves_is (tasks_on b.seats) b.seats.list.lanes (plan_of b.seats) (standings_on b) b.clock b.slot_open lane within)),
+      ap answer.Serving (c.served.ensures.value ∙ sym (serves_is (tasks_on b.seats) b.seats.list.lanes (plan_of b.seats) (standings_on b) b.clock b.slot_open lane within)),
       refl,
     )
