@@ -39,7 +39,7 @@ returns-in-Err-prepare c =
     subst (λ (code : ℕ). Played sheet plan c.args.start lines code placed lines) (sym c.number-in-Err-prepare.ensures)
     (refused list.grid list.lanes read.0 fault placed b read.1
     (from-new list.grid c.either_over-test.result.first.grid (c.either_over-test.ensures ∙ c.grid.ensures) sheet plan c.args.start
-    (view c.new_board.result) c.new_board.ensures (Err fault) placed b c.in-Err-prepare.ensures))
+    (view c.new-board.result) c.new-board.ensures (Err fault) placed b c.in-Err-prepare.ensures))
 
 pub returns : goal.returns
 returns c =
@@ -53,4 +53,4 @@ returns c =
     subst (λ (after : List Line). Played sheet plan c.args.start lines 0 placed after) (sym c.play.ensures)
     (answered list.grid list.lanes read.0 placed b read.1
     (from-new list.grid c.either_over-test.result.first.grid (c.either_over-test.ensures ∙ c.grid.ensures) sheet plan c.args.start
-    (view c.new_board.result) c.new_board.ensures (Ok tt) placed b c.in_default-prepare.ensures))
+    (view c.new-board.result) c.new-board.ensures (Ok tt) placed b c.in_default-prepare.ensures))
