@@ -22,7 +22,7 @@ fn prints(rt: &impl Abort, heap: Global, lines: &[u8], wanted: &[u8]) -> Result<
 fn headings_that_are_missing(rt: HostRuntime) -> Result<(), Fail> {
     let heap = rt.alloc();
     let text = replay(heap, b"")?;
-    assert!(rt; text.as_slice() == b"line 1 is not understood\n");
+    assert!(rt; text.as_slice() == b"line 1 is not understood\n".as_slice());
     prints(&rt, heap, b"", b"line 2 is not understood\n")?;
     prints(&rt, heap, b"plan auto\n", b"line 3 is not understood\n")?;
     prints(
@@ -43,7 +43,7 @@ fn headings_that_are_missing(rt: HostRuntime) -> Result<(), Fail> {
 fn headings_that_are_misspelt(rt: HostRuntime) -> Result<(), Fail> {
     let heap = rt.alloc();
     let text = replay(heap, b"sheet 0\n")?;
-    assert!(rt; text.as_slice() == b"line 1 is not understood\n");
+    assert!(rt; text.as_slice() == b"line 1 is not understood\n".as_slice());
     prints(&rt, heap, b"plan 0g\n", b"line 2 is not understood\n")?;
     prints(
         &rt,
@@ -75,7 +75,7 @@ fn headings_that_are_misspelt(rt: HostRuntime) -> Result<(), Fail> {
 fn boards_that_are_not_set_up(rt: HostRuntime) -> Result<(), Fail> {
     let heap = rt.alloc();
     let text = replay(heap, b"sheet \nplan \nfit exact 1001\nstart 0\n")?;
-    assert!(rt; text.as_slice() == b"set up = refused 1 0\n");
+    assert!(rt; text.as_slice() == b"set up = refused 1 0\n".as_slice());
     prints(
         &rt,
         heap,
