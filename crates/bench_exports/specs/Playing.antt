@@ -1,5 +1,5 @@
 -- What the lines of a played day mean, and what the call that plays them answers.
-use Rattle.std.specs.Prelude.{◌≡◌, ℕ, ◌%◌, cond, List, [], ◌∷◌, Some, None, Ok, Err, Result, ◌==◌}
+use Rattle.std.specs.Prelude.{ℕ, ◌%◌, cond, List, [], ◌∷◌, Some, None, Ok, Err, Result, ◌==◌}
 use Rattle.bench_exports.specs.declared.play.Line.{Line}
 use Rattle.board.specs.Codes as board
 use Rattle.board.specs.PlainBoard.{PlainBoard, after_call, answer_to, new_board}

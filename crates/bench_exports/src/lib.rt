@@ -1,4 +1,6 @@
 // Calls that only the benchmark makes: each is measured against the plain reference, and none is shipped.
+#![tactic(auto)]
+
 ghost use Rattle.std.specs.Prelude.{◌≡◌};
 ghost use Rattle.bench_exports.specs.Measured.{AskedExact, PlacedEither};
 ghost use Rattle.tasks.specs.Task.{GridRange};

@@ -1,7 +1,7 @@
 -- A lane with no task has no late job.
-use Rattle.std.proofs.Common.{◌≡◌, ℕ, ◌<◌, ◌≤◌, List, [], length, get_or, take, sym, refl, ap, ◌∙◌, subst, arith}
+use Rattle.std.proofs.Common.{◌≡◌, ℕ, List, [], length, get_or, take, sym, refl, subst, arith}
 use Rattle.std.specs.List.{ContainsAt as Has}
-use Rattle.fit.specs.Lane.{Job, Lane, Reached, Releases, SafeLane, Standing, no_more, slot, starts, unreleased}
+use Rattle.fit.specs.Lane.{Lane, Reached, Releases, SafeLane, Standing, no_more, slot, starts, unreleased}
 use Rattle.plan.specs.Placing.{LanesAreSafe}
 use Rattle.tasks.specs.declared.record.TaskRecord.{TaskRecord}
 

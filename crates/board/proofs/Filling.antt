@@ -1,9 +1,8 @@
 -- Entries that are filled one after the other.
-use Rattle.std.proofs.Common.{◌≡◌, ℕ, ◌+◌, ◌<◌, ◌≤◌, List, [], ◌∷◌, ◌++◌, length, get_or, take, drop, set, Some, sym, refl, ap, ◌∙◌, subst, arith}
+use Rattle.std.proofs.Common.{◌≡◌, ℕ, ◌+◌, ◌<◌, ◌≤◌, List, [], ◌∷◌, ◌++◌, length, get_or, take, drop, set, Some, sym, ap, ◌∙◌, arith}
 use Rattle.std.proofs.lemmas.List.{append_assoc, append-nil, drop_all, drop_more, drop-set-lt, take_all, take_more_set}
 use Rattle.board.specs.Entries.{calls_of, with_answers}
 use Rattle.board.specs.PlainBoard.{PlainBoard, after_call, after_calls, answer_to, answers_to}
-use Rattle.board.specs.declared.call.Call.{Call}
 use Rattle.board.specs.declared.call.Entry.{Entry}
 
 -- These entries with the answers that the plain board gives from here on, and the board that it leaves.

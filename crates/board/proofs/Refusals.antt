@@ -1,11 +1,11 @@
 -- The plain board's refusals and answers, read off a board's arrays.
-use Rattle.std.proofs.Common.{◌≡◌, ℕ, ◌+◌, ◌<◌, ◌≤◌, Bool, true, false, ltb, leb, List, [], ◌∷◌, map, length, get_or, drop, set, Some, None, Option, sym, refl, ap, ◌∙◌, arith}
+use Rattle.std.proofs.Common.{◌≡◌, ℕ, ◌+◌, ◌<◌, ◌≤◌, Bool, true, false, ltb, leb, List, [], ◌∷◌, map, length, drop, set, Some, None, Option, sym, ap, ◌∙◌, arith}
 use Rattle.std.proofs.lemmas.List.{at_drop_all, at_drop_more, length-map}
 use Rattle.std.proofs.lemmas.Bool.{le-leb, le-ltb, lt-leb, lt-ltb}
 use Rattle.fit.specs.Lane.{Standing}
 use Rattle.plan.specs.Placing.{record_of}
 use Rattle.plan.proofs.Awaiting.{length-tasks}
-use Rattle.board.specs.PlainBoard.{PlainBoard, count_from, fault_if, first_fault, most_waiting, next_release, post_fault, standing_of, with_standing}
+use Rattle.board.specs.PlainBoard.{count_from, fault_if, first_fault, most_waiting, next_release, post_fault, standing_of, with_standing}
 use Rattle.board.specs.Queues.{standing, stands_at}
 use Rattle.board.specs.Seating.{plan_of, tasks_on}
 use Rattle.board.specs.View.{board_of, lane_of_standings, standings_on, view}

@@ -1,5 +1,5 @@
 -- One slot of service, lane by lane from the last one down.
-use Rattle.std.proofs.Common.{◌≡◌, ℕ, ◌+◌, ◌-◌, ◌*◌, ◌<◌, ◌≤◌, Bool, true, false, cond, eqb, ◌≢◌, ◌⊎◌, List, [], ◌∷◌, map, length, get_or, Some, None, filter, Option, sym, refl, ap, ◌∙◌, subst, inl, inr, ⊎_elim, arith}
+use Rattle.std.proofs.Common.{◌≡◌, ℕ, ◌+◌, ◌-◌, ◌*◌, ◌<◌, ◌≤◌, Bool, true, false, cond, eqb, ◌≢◌, List, [], map, length, get_or, Some, None, Option, sym, refl, ap, ◌∙◌, subst, ⊎_elim, arith}
 use Rattle.std.specs.List.{AllByRecursion as All}
 use Rattle.std.proofs.ByRecursion.{All-from_get_or, all_kept_by, All-weaker, kept_by_passes}
 use Rattle.std.proofs.lemmas.List.{ext_get_or}
@@ -16,9 +16,9 @@ use Rattle.board.specs.Steps.{next_on, served_by}
 use Rattle.board.specs.View.{board_of, lane_of_standings, numbers_on, standings_on, view}
 use Rattle.board.specs.declared.board.Board.{Board}
 use Rattle.board.specs.declared.seats.Seats.{Seats}
-use Rattle.board.proofs.LaneBytes.{byte_all, byte_from, byte_more, byte_none}
+use Rattle.board.proofs.LaneBytes.{byte_from, byte_more}
 use Rattle.board.proofs.Refusals.{few-tasks, length-lanes, length-standings}
-use Rattle.board.proofs.Lanes.{Distinct, all_aside, closes-first, distinct_kept, first-number, next-first, serve-first}
+use Rattle.board.proofs.Lanes.{all_aside, closes-first, distinct_kept, next-first, serve-first}
 use Rattle.board.proofs.View.{lane-stands, length-map-counted, map-counted, order_distinct}
 
 module _ (tasks : List TaskRecord) (plan : List ℕ) (ss : List Standing) (lane : ℕ) (said : Bool) where

@@ -1,11 +1,11 @@
 -- The plain board that a board stands for: its lanes, its tasks, and what a change of one task changes.
-use Rattle.std.proofs.Common.{◌≡◌, ℕ, zero, suc, ◌+◌, ◌<◌, ◌≤◌, Bool, true, false, cond, eqb, ◌≢◌, ◌⊎◌, List, [], ◌∷◌, map, length, get_or, set, replicate, is_some, Some, None, filter, Option, sym, refl, ap, ◌∙◌, subst, inl, inr, ⊎_elim, zero-add, arith}
+use Rattle.std.proofs.Common.{◌≡◌, ℕ, zero, suc, ◌+◌, ◌<◌, ◌≤◌, Bool, true, false, eqb, ◌≢◌, List, [], ◌∷◌, map, length, get_or, set, replicate, is_some, Some, None, sym, refl, ap, ◌∙◌, subst, ⊎_elim, zero-add, arith}
 use Rattle.std.specs.List.{AllByRecursion as All}
 use Rattle.std.proofs.ByRecursion.{All-weaker, kept_by_passes}
 use Rattle.std.proofs.lemmas.List.{ext_get_or, get_or-map, get_or_past, get_or-replicate, get_or-set_other, get_or-set_same, length-map, length-set}
 use Rattle.std.proofs.lemmas.Bool.{cases_eq, cases_lt, eq-eqb, eqb-true}
 use Rattle.fit.specs.Lane.{Standing, unreleased}
-use Rattle.plan.specs.Placing.{lane_of, order, record_of, turn}
+use Rattle.plan.specs.Placing.{lane_of, order, record_of}
 use Rattle.plan.proofs.Order.{length-order, turn_of, turns_apart}
 use Rattle.tasks.specs.declared.record.TaskRecord.{TaskRecord}
 use Rattle.board.specs.PlainBoard.{PlainBoard, busy, count_from, first_waiting, lane_standings, new_board, place_among, served_task, standing_of, with_standing}

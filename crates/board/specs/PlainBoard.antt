@@ -1,5 +1,5 @@
 -- The plain board: the meaning of every answer. It is some plain lanes with one clock, and a mark whether a slot is open.
-use Rattle.std.specs.Prelude.{ℕ, zero, suc, ◌+◌, ◌*◌, ◌/◌, ◌%◌, ◌^◌, Bool, true, false, cond, not, ◌&&◌, List, [], ◌∷◌, map, length, get_or, set, Some, None, filter, Option, ◌==◌, nat_eq, nat_le, nat_lt, slice_index, slice_index_or, slice_set}
+use Rattle.std.specs.Prelude.{ℕ, zero, suc, ◌+◌, ◌*◌, ◌/◌, ◌%◌, ◌^◌, Bool, true, false, cond, not, ◌&&◌, List, [], ◌∷◌, map, length, get_or, Some, None, filter, Option, ◌==◌, nat_eq, nat_le, nat_lt, slice_index, slice_index_or, slice_set}
 use Rattle.board.specs.declared.call.Answer.{Answer}
 use Rattle.board.specs.declared.call.Answer.TheVariants as answer
 use Rattle.board.specs.declared.call.Call.{Call}

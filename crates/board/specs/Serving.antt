@@ -1,12 +1,11 @@
 -- What one slot of service leaves on a board's arrays.
-use Rattle.std.specs.Prelude.{◌≡◌, ℕ, ◌<◌, Bool, false, List, map, Some, None, Option}
+use Rattle.std.specs.Prelude.{◌≡◌, ℕ, ◌<◌, Bool, false, map, Some, None, Option}
 use Rattle.board.specs.PlainBoard.{after_service, byte_of, closes_at_end, count_from, first_closes}
 use Rattle.board.specs.Queues.{stands_at}
 use Rattle.board.specs.Seating.{plan_of, tasks_on}
 use Rattle.board.specs.Steps.{next_on, served_by}
 use Rattle.board.specs.View.{lane_of_standings, standings_on, view}
 use Rattle.board.specs.declared.board.Board.{Board}
-use Rattle.fit.specs.Lane.{Standing}
 use Rattle.plan.specs.Placing.{order, record_of}
 
 -- The number of the task that a lane of the board serves.

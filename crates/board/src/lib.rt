@@ -1,4 +1,6 @@
 // The board: jobs are posted to tasks, and slot by slot each lane serves one of them.
+#![tactic(auto)]
+
 pub mod board;
 pub mod call;
 pub mod fault;

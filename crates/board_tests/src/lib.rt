@@ -1,3 +1,5 @@
+#![tactic(auto)]
+
 // The board by example.
 #[cfg(test)]
 mod examples;

@@ -1,9 +1,7 @@
 -- The worked examples, by computing them.
-use Rattle.std.proofs.Common.{◌≡◌, ℕ, zero, suc, ◌<◌, ◌≤◌, List, [], ◌∷◌, refl, inl, inr, arith, lit≤}
-use Rattle.examples.specs.Worked.{WorkedExamples, asked_for, each_slot, journal, lighter, lock, third}
-use Rattle.fit.specs.Tests.{Askable, ExactYes, LinearYes}
-use Rattle.fit.specs.Theorems.{task}
-use Rattle.tasks.specs.declared.record.TaskRecord.{TaskRecord}
+use Rattle.std.proofs.Common.{ℕ, zero, suc, ◌<◌, ◌≤◌, [], ◌∷◌, refl, inr, arith}
+use Rattle.examples.specs.Worked.{WorkedExamples, asked_for, each_slot, journal, lock, third}
+use Rattle.fit.specs.Tests.{ExactYes}
 
 -- the third task's demand passes every time before 9
 no_sooner : (time : ℕ) → 1 ≤ time → time < 9 → time < asked_for (journal ∷ lock ∷ []) third time

@@ -1,5 +1,5 @@
 -- The worked examples, computed from the very definitions that the contracts cite. Tasks are (work, limit, gap).
-use Rattle.std.specs.Prelude.{◌≡◌, ℕ, zero, suc, ◌+◌, ◌*◌, ◌<◌, ◌≤◌, List, [], ◌∷◌, ◌++◌, map, length, sum_by}
+use Rattle.std.specs.Prelude.{◌≡◌, ℕ, zero, suc, ◌+◌, ◌*◌, ◌<◌, ◌≤◌, List, [], ◌∷◌, ◌++◌, length, sum_by}
 use Rattle.board.specs.PlainBoard.{PlainBoard, after_calls, answer_to, new_board, standing_of}
 use Rattle.board.specs.declared.call.Answer.TheVariants as answer
 use Rattle.board.specs.declared.call.Call.{Call}

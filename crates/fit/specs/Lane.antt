@@ -1,6 +1,6 @@
 -- The plain lane: one processor that serves a row of tasks by fixed priority, slot by slot.
 -- A slot is one tick of the clock. The earlier a task stands in the row, the sooner it is served.
-use Rattle.std.specs.Prelude.{◌≡◌, ℕ, ◌+◌, ◌≤◌, Bool, cond, ◌||◌, List, [], ◌∷◌, ◌++◌, map, length, IfSome, Some, None, Option, nat_le, slice_index_or}
+use Rattle.std.specs.Prelude.{ℕ, ◌+◌, ◌≤◌, Bool, cond, ◌||◌, List, [], ◌∷◌, ◌++◌, map, IfSome, Some, None, Option, nat_le, slice_index_or}
 use Rattle.std.specs.List.{ContainsAt as Has}
 use Rattle.tasks.specs.declared.record.TaskRecord.{TaskRecord}
 

@@ -1,4 +1,6 @@
 // Fit tests: may one more task join a lane? A yes is proved to keep it on time.
+#![tactic(auto)]
+
 mod askable;
 pub mod either;
 pub mod exact;

@@ -12,7 +12,6 @@ use Rattle.std.proofs.lemmas.List.{drop_at, length-map, length-take-le, take-app
 use Rattle.tasks.specs.Filling.{tasks_of}
 use Rattle.tasks.specs.Reading.{Spells, numbers_said, tasks_said}
 use Rattle.tasks.specs.declared.list.TaskList.{TaskList}
-use Rattle.tasks.specs.declared.record.TaskRecord.{TaskRecord}
 
 module _ (sheet before : List ℕ) (list : TaskList) (entries : List Entry) (spells : Spells sheet list.grid list.lanes entries) (tasks_are : tasks_of list ≡ tasks_said entries) where
   -- as many tasks as entries

@@ -1,11 +1,11 @@
 -- The call has one answer, since reading and placing have.
-use Rattle.std.proofs.Common.{◌≡◌, ℕ, ◌<◌, ◌≤◌, List, ◌++◌, length, take, drop, sym, refl, ap, ◌∙◌, subst, arith}
+use Rattle.std.proofs.Common.{◌≡◌, ℕ, List, ◌++◌, length, take, drop, sym, refl, ap, ◌∙◌, subst, arith}
 use Rattle.fit.specs.Tests.{LinearYes}
-use Rattle.installer.specs.Installing.{CallSettled, Installed, NoPlan, PlacedList, Written}
+use Rattle.installer.specs.Installing.{CallSettled, NoPlan, PlacedList, Written}
 use Rattle.installer.specs.Installing.Installed.{placed, refused}
 use Rattle.plan.proofs.Settled.{settled as placing}
 use Rattle.plan.specs.Codes.{number}
-use Rattle.plan.specs.Placing.{CannotPlace, Places}
+use Rattle.plan.specs.Placing.{CannotPlace}
 use Rattle.plan.specs.declared.fault.PlanFault.{PlanFault}
 use Rattle.plan.specs.declared.fault.PlanFault.TheVariants.{List as List-fault, PlanLength, NoLane, NoFit}
 use Rattle.sheet.specs.Spelling.{Entry}
@@ -13,7 +13,6 @@ use Rattle.std.proofs.lemmas.List.{length-map, length-take-le, take-append-drop}
 use Rattle.tasks.proofs.Settled.{settled as reading}
 use Rattle.tasks.specs.Codes as list
 use Rattle.tasks.specs.Reading.{Spells, numbers_said, tasks_said}
-use Rattle.tasks.specs.declared.fault.ListFault.{ListFault}
 
 module _ (sheet before : List ℕ) where
   -- bytes that are written by the same list are the same

@@ -1,4 +1,6 @@
 // The installer's call: a sheet and plan bytes in, 0 or a bare number out.
+#![tactic(auto)]
+
 ghost use Rattle.installer.specs.Installing.{Answered, CallSettled, Installed};
 
 use fit::linear::Linear;

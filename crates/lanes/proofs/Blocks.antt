@@ -1,15 +1,15 @@
 -- A block of the listing from what place answered.
-use Rattle.std.proofs.Common.{◌≡◌, ℕ, List, ◌++◌, length, sym, ap, ◌∙◌, subst, append_assoc}
-use Rattle.lanes.specs.Listing.{Block, refusal_line, task_lines}
+use Rattle.std.proofs.Common.{◌≡◌, ℕ, List, ◌++◌, length, ap, ◌∙◌, subst, append_assoc}
+use Rattle.lanes.specs.Listing.{refusal_line, task_lines}
 use Rattle.lanes.specs.Listing.Block.{placed, unplaced}
-use Rattle.lanes.specs.Steps.{BlockAdded, LinesAdded, Read_from}
+use Rattle.lanes.specs.Steps.{BlockAdded, LinesAdded}
 use Rattle.plan.specs.Codes.{number, place}
 use Rattle.plan.specs.Placing.{CannotPlace, Places}
 use Rattle.plan.specs.declared.fault.PlanFault.{PlanFault}
 use Rattle.plan.specs.declared.fault.PlanFault.TheVariants.{List as List-fault, PlanLength, NoLane, NoFit}
 use Rattle.std.proofs.lemmas.List.{length-map}
 use Rattle.tasks.specs.Filling.{tasks_of}
-use Rattle.tasks.specs.Reading.{numbers_said, tasks_said}
+use Rattle.tasks.specs.Reading.{numbers_said}
 use Rattle.tasks.specs.declared.list.TaskList.{TaskList}
 use Rattle.tasks.specs.declared.record.TaskRecord.{TaskRecord}
 

@@ -1,5 +1,5 @@
 -- How the lines of the listing grow.
-use Rattle.std.proofs.Common.{◌≡◌, ℕ, ◌<◌, List, [], ◌∷◌, ◌++◌, length, codes, sym, refl, ap, ◌∙◌, append_assoc, arith}
+use Rattle.std.proofs.Common.{◌≡◌, ℕ, ◌<◌, List, [], ◌∷◌, ◌++◌, length, codes, append_assoc, arith}
 use Rattle.lanes.specs.Listing.{spaced}
 
 pub spaced-some : (text name : List ℕ) → 0 < length name → (text ++ codes " ") ++ name ≡ text ++ spaced name

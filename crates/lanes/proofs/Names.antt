@@ -1,11 +1,11 @@
 -- The name that is read is that of the one list that the bytes spell.
-use Rattle.std.proofs.Common.{◌≡◌, ℕ, ◌<◌, ◌≤◌, List, [], length, get_or, Ok, Err, Option, Result, refl, ap, ◌∙◌, inl, inr, arith}
+use Rattle.std.proofs.Common.{◌≡◌, ℕ, List, [], length, get_or, Ok, Err, Option, Result, refl, ap, ◌∙◌, inl, inr, arith}
 use Rattle.lanes.specs.Steps.{NameThere}
 use Rattle.sheet.specs.Reading.{name_said}
 use Rattle.sheet.specs.Spelling.{Entry}
 use Rattle.sheet.specs.declared.part.Part.{Part}
 use Rattle.tasks.proofs.Settled.{settled}
-use Rattle.tasks.specs.Reading.{NameRead, Spells, no_entry}
+use Rattle.tasks.specs.Reading.{NameRead, no_entry}
 use Rattle.tasks.specs.declared.fault.ListFault.{ListFault}
 
 -- the name, or no bytes for a refusal

@@ -1,7 +1,7 @@
 -- Bytes have one listing, since reading and placing have one answer each.
 use Rattle.std.proofs.Common.{◌≡◌, ℕ, List, ◌++◌, length, codes, ap, ◌∙◌, subst}
 use Rattle.fit.specs.Tests.{EitherYes, ExactYes, LinearYes}
-use Rattle.lanes.specs.Listing.{Block, Listing, ListingIsSettled, refusal_line, summary_line, task_lines}
+use Rattle.lanes.specs.Listing.{Block, ListingIsSettled, refusal_line, summary_line, task_lines}
 use Rattle.lanes.specs.Listing.Block.{placed, unplaced}
 use Rattle.lanes.specs.Listing.Listing.{accepted, refused}
 use Rattle.plan.proofs.Settled.{settled as placing}

@@ -1,4 +1,6 @@
 // Reads a task sheet from standard input and prints what it holds and where its tasks are placed.
+#![tactic(auto)]
+
 ghost use Rattle.std.specs.Prelude.{◌≤◌, length, IfOk};
 
 mod listing;

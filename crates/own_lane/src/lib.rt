@@ -1,4 +1,6 @@
 // A fit test of one's own, as an example: a task must have a lane to itself.
+#![tactic(auto)]
+
 ghost use Rattle.own_lane.specs.OwnLane.{OwnLaneYes};
 ghost use Rattle.std.specs.Prelude.{List, [], ◌∷◌, ◌++◌, length};
 ghost use Rattle.std.proofs.Common.{subst, sym};

@@ -1,4 +1,6 @@
 // Placing tasks on lanes, and checking any placing.
+#![tactic(auto)]
+
 pub mod check;
 pub mod fault;
 pub mod numbering;

@@ -1,3 +1,5 @@
+#![tactic(auto)]
+
 // Placing and checking by example.
 #[cfg(test)]
 mod tables;

@@ -1,4 +1,6 @@
 // Tests of the ordered queue, at an order without ties and at one with ties.
+#![tactic(auto)]
+
 ghost use Rattle.queue_tests.specs.Order.{rank_before, ticket_before};
 ghost use Rattle.std.proofs.Common.{rules};
 

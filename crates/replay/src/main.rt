@@ -1,4 +1,6 @@
 // Reads a recorded day from standard input and prints the answer to each of its calls.
+#![tactic(auto)]
+
 ghost use Rattle.std.specs.Prelude.{◌≤◌, length, IfOk};
 
 use script::day::replay;

@@ -1,22 +1,20 @@
 -- From what each step answers to what is printed for the day.
-use Rattle.std.proofs.Common.{◌≡◌, ℕ, suc, ◌+◌, Bool, true, false, ◌⊎◌, List, [], ◌∷◌, ◌++◌, map, length, Some, None, Ok, Err, vec_items, Option, Result, sym, refl, ap, ◌∙◌, subst, inl, inr, append_assoc, append-nil, arith}
-use Rattle.board.specs.Codes.{number, place}
-use Rattle.board.specs.Entries.{calls_of, with_answers}
-use Rattle.board.specs.PlainBoard.{PlainBoard, after_call, answer_to, answers_to, new_board}
+use Rattle.std.proofs.Common.{◌≡◌, ℕ, suc, Bool, List, [], ◌∷◌, ◌++◌, length, Some, None, Ok, Err, vec_items, Option, Result, sym, refl, ap, ◌∙◌, subst, inl, inr, append_assoc}
+use Rattle.board.specs.Entries.{calls_of}
+use Rattle.board.specs.PlainBoard.{PlainBoard, after_call, answers_to}
 use Rattle.board.specs.Promise.{Performed}
-use Rattle.board.specs.declared.call.Answer.{Answer}
 use Rattle.board.specs.declared.call.Call.{Call}
 use Rattle.board.specs.declared.call.Entry.{Entry}
 use Rattle.board.specs.declared.fault.BoardFault.{BoardFault}
 use Rattle.board.specs.declared.fault.BoardFault.TheVariants.{Plan}
-use Rattle.fit.specs.Tests.{CostRange, Held, SurchargeYes}
+use Rattle.fit.specs.Tests.{CostRange, SurchargeYes}
 use Rattle.plan.specs.Placing.{CannotPlace}
 use Rattle.plan.specs.declared.fault.PlanFault.{PlanFault}
 use Rattle.plan.specs.declared.fault.PlanFault.TheVariants.{List as List-fault, PlanLength, NoLane, NoFit}
 use Rattle.script.specs.Calls.{CallsSaid}
-use Rattle.script.specs.Day.{AfterHeadings, Boardless, Chosen, Costed, Day, DayRun, DayText, Made, Named, NoDay, NoStart, Played, Replay, Unplaced, last_line, yes_by_name}
-use Rattle.script.specs.Day.AfterHeadings.{played, refused}
-use Rattle.script.specs.Day.NoDay.{costly, no_start, unreadable}
+use Rattle.script.specs.Day.{AfterHeadings, Chosen, Costed, DayRun, DayText, Named, NoDay, NoStart, Played, Replay, Unplaced, last_line, yes_by_name}
+use Rattle.script.specs.Day.AfterHeadings.{played}
+use Rattle.script.specs.Day.NoDay.{costly, no_start}
 use Rattle.script.specs.Day.Replay.{headed, unheaded}
 use Rattle.script.specs.Headings.{proposed}
 use Rattle.script.specs.Opening.{Opened}

@@ -1,5 +1,5 @@
 -- The headings stand in the first four lines.
-use Rattle.std.proofs.Common.{◌≡◌, ℕ, suc, List, [], ◌∷◌, get_or, drop, Option, ap, ◌∙◌, subst}
+use Rattle.std.proofs.Common.{◌≡◌, ℕ, suc, List, [], ◌∷◌, drop, Option, ap, ◌∙◌, subst}
 use Rattle.script.specs.Opening.{line_at}
 
 -- what follows the first line

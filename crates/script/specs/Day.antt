@@ -1,5 +1,5 @@
 -- What is printed for a recorded day.
-use Rattle.std.specs.Prelude.{◌≡◌, ℕ, ◌+◌, ◌≤◌, Bool, true, false, ◌⊎◌, List, [], ◌∷◌, ◌++◌, length, drop, Some, None, Ok, Err, vec_items, Option, Result}
+use Rattle.std.specs.Prelude.{◌≡◌, ℕ, ◌+◌, ◌≤◌, Bool, true, false, ◌⊎◌, List, [], ◌++◌, length, drop, Some, None, Ok, Err, vec_items, Option, Result}
 use Rattle.board.specs.Codes.{number, place}
 use Rattle.board.specs.Entries.{calls_of, with_answers}
 use Rattle.board.specs.PlainBoard.{PlainBoard, clock_end}
@@ -11,7 +11,6 @@ use Rattle.board.specs.declared.fault.BoardFault.{BoardFault}
 use Rattle.board.specs.declared.fault.BoardFault.TheVariants.{Plan}
 use Rattle.fit.specs.Tests.{CostRange, EitherYes, ExactYes, LinearYes, SurchargeYes}
 use Rattle.plan.specs.Placing.{CannotPlace, Places}
-use Rattle.plan.specs.declared.fault.PlanFault.{PlanFault}
 use Rattle.plan.specs.declared.fault.PlanFault.TheVariants.{List as List-fault, NoFit}
 use Rattle.script.specs.Calls.{CallsSaid}
 use Rattle.script.specs.Headings.{proposed}

@@ -1,5 +1,5 @@
 -- What the four lines at the beginning of a recorded day say.
-use Rattle.std.specs.Prelude.{◌≡◌, ℕ, ◌^◌, List, Some, None, vec_items, codes, Option, MatchOption}
+use Rattle.std.specs.Prelude.{◌≡◌, ℕ, List, Some, None, vec_items, codes, Option, MatchOption}
 use Rattle.script.specs.declared.headings.FitChoice.{FitChoice}
 use Rattle.script.specs.declared.headings.PlanChoice.{PlanChoice}
 use Rattle.script.specs.declared.headings.PlanChoice.TheVariants.{Auto, Proposed}

@@ -2,7 +2,6 @@
 use Rattle.std.specs.Prelude.{◌≡◌, ℕ, List, [], drop, vec_items, Option, slice_index_or}
 use Rattle.script.specs.Headings.{SaysFit, SaysPlan, SaysSheet, SaysStart, proposed}
 use Rattle.script.specs.declared.headings.TestName.{TestName}
-use Rattle.script.specs.declared.opening.Headings.{Headings}
 use Rattle.script.specs.declared.opening.Opening.{Opening}
 use Rattle.script.specs.declared.opening.Opening.TheVariants as opening
 

@@ -1,5 +1,5 @@
 -- The text that answers a recorded day.
-use Rattle.std.specs.Prelude.{ℕ, Bool, true, false, List, [], ◌∷◌, ◌++◌, Some, None, codes, decimal, Option}
+use Rattle.std.specs.Prelude.{ℕ, List, [], ◌∷◌, ◌++◌, Some, None, codes, decimal, Option}
 use Rattle.board.specs.Codes.{number, place}
 use Rattle.board.specs.declared.call.Answer.{Answer}
 use Rattle.board.specs.declared.call.Answer.TheVariants.{Posted, Begun, Ended, Serving, Waiting, Clock, Refused}

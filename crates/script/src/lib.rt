@@ -1,4 +1,6 @@
 // A recorded day: what its lines say, and the text that answers it.
+#![tactic(auto)]
+
 pub mod calls;
 pub mod day;
 pub mod headings;

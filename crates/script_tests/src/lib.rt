@@ -1,3 +1,5 @@
+#![tactic(auto)]
+
 // Recorded days by example.
 #[cfg(test)]
 mod days;

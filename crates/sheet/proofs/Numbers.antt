@@ -1,7 +1,7 @@
 -- Bytes that are read as a number are the bytes that spell it.
-use Rattle.std.proofs.Common.{◌≡◌, ℕ, ◌+◌, ◌*◌, ◌/◌, ◌%◌, ◌<◌, ◌≤◌, List, [], ◌∷◌, ◌++◌, length, get_or, take, drop, sym, refl, ap, ◌∙◌, arith}
+use Rattle.std.proofs.Common.{◌≡◌, ℕ, ◌+◌, ◌*◌, ◌/◌, ◌%◌, ◌<◌, ◌≤◌, List, [], ◌∷◌, ◌++◌, length, get_or, drop, ap, ◌∙◌, arith}
 use Rattle.std.proofs.lemmas.List.{drop_more}
-use Rattle.sheet.specs.Spelling.{two_bytes, four_bytes}
+use Rattle.sheet.specs.Spelling.{four_bytes}
 
 pub four_spelled : (a b c d r : ℕ) → a < 256 → b < 256 → c < 256 → d < 256
     → r ≡ a * 16777216 + b * 65536 + c * 256 + d → a ∷ b ∷ c ∷ d ∷ [] ≡ four_bytes r

@@ -1,8 +1,8 @@
 -- What stands at the front of the unread bytes, from the bytes that were read there.
-use Rattle.std.proofs.Common.{◌≡◌, ℕ, ◌+◌, ◌-◌, ◌<◌, ◌≤◌, ◌⊎◌, List, [], ◌∷◌, ◌++◌, length, get_or, take, drop, Some, None, sym, refl, ap, ◌∙◌, subst, inl, inr, append_assoc, arith}
+use Rattle.std.proofs.Common.{◌≡◌, ℕ, ◌+◌, ◌-◌, ◌<◌, ◌≤◌, ◌⊎◌, List, ◌∷◌, ◌++◌, length, get_or, take, drop, Some, None, sym, ap, ◌∙◌, subst, inl, inr, arith}
 use Rattle.std.specs.List.{between, AllByRecursion as All}
 use Rattle.std.proofs.lemmas.List.Edits.{length-between}
-use Rattle.std.proofs.lemmas.List.{drop_more, drop-drop, length-drop, length-take-le, take-append-drop}
+use Rattle.std.proofs.lemmas.List.{drop_more, drop-drop, length-drop, take-append-drop}
 use Rattle.sheet.specs.Refusals.{BadLength, BadNameByte, name_bytes}
 use Rattle.sheet.specs.Spelling.{Entry, Printable, entry_bytes, four_bytes}
 use Rattle.sheet.specs.Steps.{FirstUnprintable}

@@ -1,5 +1,5 @@
 -- When bytes are no sheet: each fault as a statement about the bytes. Offsets count from byte 0.
-use Rattle.std.specs.Prelude.{◌≡◌, ℕ, ◌+◌, ◌-◌, ◌*◌, ◌<◌, ◌≢◌, ◌⊎◌, List, [], ◌∷◌, length, take, slice_index, slice_range}
+use Rattle.std.specs.Prelude.{◌≡◌, ℕ, ◌+◌, ◌*◌, ◌<◌, ◌≢◌, ◌⊎◌, List, [], ◌∷◌, length, take, slice_index, slice_range}
 use Rattle.std.specs.List.{AllByRecursion as All}
 use Rattle.sheet.specs.Spelling.{Printable}
 use Rattle.sheet.specs.declared.fault.SheetFault.{SheetFault}

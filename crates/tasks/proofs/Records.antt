@@ -1,5 +1,5 @@
 -- The steps of reading a list: what one record more, or a record that is refused, says of the bytes.
-use Rattle.std.proofs.Common.{◌≡◌, ℕ, ◌+◌, ◌<◌, ◌≤◌, ◌≢◌, List, [], ◌∷◌, ◌++◌, length, sym, refl, ap, ◌∙◌, subst, arith}
+use Rattle.std.proofs.Common.{◌≡◌, ℕ, List, ◌++◌, length, sym, ap, ◌∙◌, arith}
 use Rattle.sheet.specs.Spelling.{Entry, Spellable, entry_bytes}
 use Rattle.tasks.specs.Filling.{CannotJoin}
 use Rattle.tasks.specs.Reading.{NoNextTask, numbers_said}

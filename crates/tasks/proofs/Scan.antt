@@ -1,22 +1,19 @@
 -- Reading record after record: what is known on the way, and that it comes to the list that the bytes spell.
-use Rattle.std.proofs.Common.{◌≡◌, ℕ, ◌+◌, ◌<◌, ◌≤◌, ◌≢◌, ◌⊎◌, List, [], ◌∷◌, ◌++◌, map, length, get_or, take, Ok, Err, Option, sym, refl, ap, ◌∙◌, subst, inl, inr, append_assoc, append-nil, arith}
-use Rattle.sheet.specs.Reading.{NameAt, Opened, WentOver, name_said, unread}
-use Rattle.sheet.specs.Spelling.{Entry, Frame, Spellable, body_bytes, entry_bytes, records_bytes, sheet_bytes}
-use Rattle.sheet.specs.declared.fault.SheetFault.{SheetFault}
+use Rattle.std.proofs.Common.{◌≡◌, ℕ, ◌+◌, ◌<◌, ◌≤◌, ◌≢◌, ◌⊎◌, List, [], ◌∷◌, ◌++◌, length, take, Ok, Option, sym, ap, ◌∙◌, subst, inl, inr, append_assoc, arith}
+use Rattle.sheet.specs.Reading.{NameAt, Opened, name_said, unread}
+use Rattle.sheet.specs.Spelling.{Entry, Frame, Spellable, entry_bytes, records_bytes}
 use Rattle.sheet.specs.declared.part.Part.{Part}
 use Rattle.sheet.specs.declared.reader.Reader.{Reader}
 use Rattle.std.proofs.ByRecursion.{All-push}
 use Rattle.std.proofs.lemmas.Bool.{cases_lt}
 use Rattle.std.proofs.lemmas.List.{get_or_append_left, get_or_push, flat_map_more, length-append, length-map, length_push, map_push, take-append-le, take_at}
-use Rattle.std.specs.List.{AllByRecursion as All}
 use Rattle.tasks.specs.Filling.{IsList, NoList, tasks_of}
-use Rattle.tasks.specs.Reading.{Begins, NameOf, NoNextTask, Spells, Unreadable, no_entry, numbers_said, offset_after, tasks_said}
+use Rattle.tasks.specs.Reading.{Begins, NameOf, NoNextTask, Unreadable, no_entry, numbers_said, offset_after, tasks_said}
 use Rattle.tasks.specs.Reading.Unreadable.{out_of_range, stops}
 use Rattle.tasks.specs.Steps.{Joined, Scanned}
 use Rattle.tasks.specs.Task.{GridRange, LaneRange, Lawful}
 use Rattle.tasks.specs.declared.fault.ListFault.{ListFault}
 use Rattle.tasks.specs.declared.list.TaskList.{TaskList}
-use Rattle.tasks.specs.declared.record.TaskRecord.{TaskRecord}
 
 -- The entries that were read so far, the list that they make, and the name that was asked for, once it was met.
 pub record UnderWay (bytes : List ℕ) (asked : ℕ) (sheet : Reader) (list : TaskList) (name : Option Part) : Type 0 where

@@ -3,7 +3,6 @@ use Rattle.std.specs.Prelude.{ℕ}
 use Rattle.sheet.specs.Codes as sheet
 use Rattle.sheet.specs.declared.fault.Layer.{Layer}
 use Rattle.sheet.specs.declared.fault.Layer.TheVariants.{List}
-use Rattle.tasks.specs.declared.fault.Setting.{Setting}
 use Rattle.tasks.specs.declared.fault.Setting.TheVariants.{Grid, Lanes, SwitchCost}
 use Rattle.tasks.specs.declared.fault.ListFault.{ListFault}
 use Rattle.tasks.specs.declared.fault.ListFault.TheVariants.{Sheet, TooMany, OutOfRange, Bound, OffGrid}

@@ -1,5 +1,5 @@
 -- What a task list holds.
-use Rattle.std.specs.Prelude.{ℕ, ◌≤◌, List, take}
+use Rattle.std.specs.Prelude.{List, take}
 use Rattle.tasks.specs.declared.record.TaskRecord.{TaskRecord}
 use Rattle.tasks.specs.declared.table.Table.{Table}
 

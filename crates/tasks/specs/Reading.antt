@@ -1,5 +1,5 @@
 -- Which bytes spell a lawful task list, which list that is, and why other bytes spell none.
-use Rattle.std.specs.Prelude.{◌≡◌, ℕ, ◌+◌, ◌<◌, ◌≤◌, ◌≢◌, ◌⊎◌, List, [], ◌∷◌, ◌++◌, map, length, take, Ok, Err, Option, Result, slice_index_or}
+use Rattle.std.specs.Prelude.{◌≡◌, ℕ, ◌+◌, ◌<◌, ◌≤◌, ◌≢◌, ◌⊎◌, List, [], ◌++◌, map, length, take, Ok, Err, Option, Result, slice_index_or}
 use Rattle.sheet.specs.Reading.{NameAt, name_said}
 use Rattle.sheet.specs.Refusals.{NoFrame, NoRecord}
 use Rattle.sheet.specs.Spelling.{Entry, Frame, Spellable, entry_bytes, records_bytes}
@@ -7,7 +7,7 @@ use Rattle.sheet.specs.declared.fault.SheetFault.{SheetFault}
 use Rattle.sheet.specs.declared.fault.SheetFault.TheVariants.{NoTask}
 use Rattle.sheet.specs.declared.part.Part.{Part}
 use Rattle.std.specs.List.{AllByRecursion as All}
-use Rattle.tasks.specs.Filling.{CannotJoin, IsList, NoList, tasks_of}
+use Rattle.tasks.specs.Filling.{CannotJoin, NoList, tasks_of}
 use Rattle.tasks.specs.Task.{GridRange, LaneRange, Lawful}
 use Rattle.tasks.specs.declared.fault.ListFault.{ListFault}
 use Rattle.tasks.specs.declared.fault.ListFault.TheVariants.{Sheet, TooMany, OutOfRange, Bound, OffGrid}

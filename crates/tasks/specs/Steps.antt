@@ -1,5 +1,5 @@
 -- What the steps of reading a list give.
-use Rattle.std.specs.Prelude.{◌≡◌, ℕ, ◌+◌, ◌<◌, ◌≤◌, List, [], ◌∷◌, ◌++◌, length, Ok, Err, Option, Result}
+use Rattle.std.specs.Prelude.{◌≡◌, ℕ, ◌+◌, ◌<◌, List, [], ◌∷◌, ◌++◌, length, Ok, Err, Option, Result}
 use Rattle.sheet.specs.Reading.{NameAt, WentOver, name_said, unread}
 use Rattle.sheet.specs.Spelling.{Entry}
 use Rattle.sheet.specs.declared.part.Part.{Part}

@@ -1,4 +1,6 @@
 // Tasks and task lists, and reading them from a sheet.
+#![tactic(auto)]
+
 pub mod fault;
 pub mod list;
 pub mod order;

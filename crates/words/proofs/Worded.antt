@@ -1,7 +1,7 @@
 -- A line that begins with a word is the word and what follows it.
-use Rattle.std.proofs.Common.{◌≡◌, ℕ, ◌<◌, ◌≤◌, List, [], ◌∷◌, ◌++◌, IfOk, Some, None, Ok, Err, Option, Result, sym, ◌∙◌, subst, arith}
+use Rattle.std.proofs.Common.{◌≡◌, ℕ, List, [], ◌∷◌, ◌++◌, IfOk, Some, None, Ok, Err, Option, Result, sym, ◌∙◌, subst, arith}
 use Rattle.std.specs.Global.{Vec}
-use Rattle.words.specs.Spelling.{Hex, HexRead, Hexed, HexedRead, Number, NumberRead, Numbered, NumberedRead}
+use Rattle.words.specs.Spelling.{Hex, HexRead, HexedRead, Number, NumberRead, NumberedRead}
 
 -- two rests after one word are the same
 pub same_rest : (word a b : List ℕ) → word ++ a ≡ word ++ b → a ≡ b

@@ -1,4 +1,6 @@
 // Reading text: its lines, and the words, numbers and bytes that a line spells.
+#![tactic(auto)]
+
 pub mod hex;
 pub mod lines;
 pub mod number;

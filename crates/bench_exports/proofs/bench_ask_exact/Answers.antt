@@ -1,5 +1,5 @@
 -- What the exact test answers for the list that was read.
-use Rattle.std.proofs.Common.{◌≡◌, ℕ, ◌-◌, length, sym, refl, ap, ◌∙◌, subst, arith}
+use Rattle.std.proofs.Common.{◌≡◌, ℕ, ◌-◌, length, sym, refl, ap, subst, arith}
 use Rattle.bench_exports.proofs.Read.{asked_last, last_asked, last-left, last_taken, none_to_ask}
 use Rattle.bench_exports.specs.Measured.{AskedExact, TakesLast}
 use Rattle.bench_exports.specs.Measured.AskedExact.{unreadable}

@@ -2,8 +2,6 @@
 use Rattle.std.proofs.Common.{get_or, ap, ◌∙◌, arith}
 use Rattle.board.specs.View.{view}
 use Rattle.board.specs.PlainBoard.{after_call, answer_to}
-use Rattle.board.specs.declared.call.Answer.{Answer}
-use Rattle.board.specs.declared.call.Call.{Call}
 use Rattle.bench_exports.specs.Playing.{call_said, code_of, value_of}
 use Rattle.bench_exports.specs.declared.play.Line.{Line}
 use Rattle.bench_exports.proofs.Playing.{all-played, one-played}

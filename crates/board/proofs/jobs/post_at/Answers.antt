@@ -1,5 +1,5 @@
 -- The task's own queue takes the job, and the others are as they were.
-use Rattle.std.proofs.Common.{◌≡◌, ◌<◌, ◌≤◌, unwrap_or, sym, subst}
+use Rattle.std.proofs.Common.{◌≤◌, unwrap_or, sym, subst}
 use Rattle.fit.specs.Lane.{Standing}
 use Rattle.board.proofs.Standings.{job-taken, stands_read}
 use Rattle.board.proofs.jobs.post_at.Goals as goal

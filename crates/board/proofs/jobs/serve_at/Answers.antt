@@ -1,5 +1,5 @@
 -- The task's own queue is served, and the others are as they were.
-use Rattle.std.proofs.Common.{◌≡◌, ap, ◌∙◌}
+use Rattle.std.proofs.Common.{ap, ◌∙◌}
 use Rattle.fit.specs.Lane.{Standing}
 use Rattle.board.specs.PlainBoard.{first_closes}
 use Rattle.board.specs.Queues.{after_slot_of}

@@ -1,5 +1,5 @@
 -- Set up gives a new board of a plan that passes, and the plain board keeps the promise from there.
-use Rattle.std.proofs.Common.{◌≡◌, ℕ, sym, refl, ap, ◌∙◌, subst}
+use Rattle.std.proofs.Common.{refl, ap, ◌∙◌}
 use Rattle.std.proofs.lemmas.Result.{err_from_is_err_and}
 use Rattle.tasks.specs.Filling.{tasks_of}
 use Rattle.board.specs.Entries.{calls_of, with_answers}

@@ -1,5 +1,5 @@
 -- The loop adds up the row, and stops at a task that breaks its bounds or leaves the grid.
-use Rattle.std.proofs.Common.{ℕ, ◌^◌, get_or, take, sym, ◌∙◌, subst, arith}
+use Rattle.std.proofs.Common.{ℕ, ◌^◌, sym, ◌∙◌, subst, arith}
 use Rattle.fit.specs.Totals.{total_goes, total_ends}
 use Rattle.fit.proofs.linear.sums_of.Goals as goal
 use Rattle.fit.specs.Lane.{no_task}

@@ -1,7 +1,7 @@
 use Rattle.std.proofs.Common.{◌++◌, vec_items, ap, ◌∙◌, rules}
 use Rattle.lanes.proofs.Blocks.{block_placed, block_unplaced}
 use Rattle.lanes.specs.Listing.{refusal_line}
-use Rattle.plan.specs.Codes.{number, place}
+use Rattle.plan.specs.Codes.{number}
 use Rattle.lanes.proofs.listing.block.Goals as goal
 
 pub returns-in-Err : goal.returns-in-Err

@@ -1,7 +1,7 @@
 use Rattle.std.proofs.Common.{◌++◌, sym, ap, ◌∙◌, subst}
 use Rattle.lanes.specs.Listing.{Listing, refusal_line}
 use Rattle.lanes.specs.Listing.Listing.{refused}
-use Rattle.tasks.specs.Codes.{number, place}
+use Rattle.tasks.specs.Codes.{number}
 use Rattle.lanes.proofs.listing.listing.Goals as goal
 
 pub returns-in-Err : goal.returns-in-Err

@@ -1,10 +1,10 @@
 -- Each task is asked over the row of its lane in its turn.
-use Rattle.std.proofs.Common.{◌≡◌, ℕ, ◌+◌, ◌<◌, List, [], ◌∷◌, ◌++◌, map, length, get_or, set, sym, refl, ap, subst, arith, below_more}
+use Rattle.std.proofs.Common.{◌≡◌, ℕ, ◌<◌, List, [], ◌∷◌, ◌++◌, map, length, get_or, set, sym, refl, ap, subst, arith, below_more}
 use Rattle.std.proofs.lemmas.Bool.Decides.{not_from_Decides}
 use Rattle.tasks.specs.Filling.{tasks_of}
 use Rattle.tasks.specs.List.{held}
 use Rattle.tasks.specs.declared.record.TaskRecord.{TaskRecord}
-use Rattle.plan.specs.Placing.{Takes, lane_of, record_of, turn}
+use Rattle.plan.specs.Placing.{Takes, lane_of, record_of}
 use Rattle.plan.specs.Steps.{row_on}
 use Rattle.plan.proofs.Awaiting.{length-tasks}
 use Rattle.plan.proofs.Order.{number_in_turn}

@@ -1,4 +1,4 @@
-use Rattle.std.proofs.Common.{vec_items, ap, ◌∙◌, subst}
+use Rattle.std.proofs.Common.{vec_items, ap, subst}
 use Rattle.script.proofs.Days.{headed_text, unheaded_text}
 use Rattle.script.specs.Opening.{Opened}
 use Rattle.words.specs.Lines.{lines_left}

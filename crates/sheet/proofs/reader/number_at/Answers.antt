@@ -1,4 +1,4 @@
-use Rattle.std.proofs.Common.{arith, rules}
+use Rattle.std.proofs.Common.{rules}
 use Rattle.sheet.proofs.Numbers.{four_front}
 use Rattle.sheet.proofs.reader.number_at.Goals as goal
 

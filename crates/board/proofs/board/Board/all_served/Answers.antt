@@ -1,5 +1,5 @@
 -- Bit by bit, up to the first that is set at a lane with no job.
-use Rattle.std.proofs.Common.{◌≡◌, ℕ, ◌<◌, ◌≤◌, Bool, true, false, not, ◌&&◌, sym, ap, ◌∙◌, arith}
+use Rattle.std.proofs.Common.{◌≡◌, Bool, false, not, ◌&&◌, sym, ap, ◌∙◌, arith}
 use Rattle.std.proofs.lemmas.Bool.{and_from, and_left, and_right}
 use Rattle.board.specs.PlainBoard.{bit, busy, fault_if, not_served}
 use Rattle.board.specs.View.{view}

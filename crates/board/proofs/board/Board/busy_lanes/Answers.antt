@@ -1,5 +1,5 @@
 -- Each turn puts one lane's bit below the others.
-use Rattle.std.proofs.Common.{◌≡◌, ℕ, ◌+◌, ◌-◌, ◌*◌, ◌<◌, ◌≤◌, Bool, cond, map, sym, ap, ◌∙◌, subst, arith}
+use Rattle.std.proofs.Common.{◌≡◌, ℕ, ◌+◌, ◌-◌, ◌*◌, Bool, cond, map, sym, ap, ◌∙◌, arith}
 use Rattle.board.specs.PlainBoard.{busy, byte_of, count_from}
 use Rattle.board.specs.View.{view}
 use Rattle.board.proofs.LaneBytes.{byte_all, byte_fits, byte_from, byte_more, byte_none}

@@ -1,5 +1,5 @@
 -- No bit refuses; every lane is served, and the clock rises.
-use Rattle.std.proofs.Common.{◌≡◌, not, sym, ap, ◌∙◌}
+use Rattle.std.proofs.Common.{not, ap, ◌∙◌}
 use Rattle.board.specs.declared.call.Answer.TheVariants as answer
 use Rattle.board.specs.declared.fault.BoardFault.TheVariants.{SlotShut}
 use Rattle.board.proofs.Refusals.{passed}

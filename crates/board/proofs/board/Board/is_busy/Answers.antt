@@ -1,5 +1,5 @@
 -- A lane of the box is busy where it serves a task; past the last lane there is none.
-use Rattle.std.proofs.Common.{◌≡◌, ◌<◌, ◌≤◌, is_some, sym, ap, ◌∙◌, arith}
+use Rattle.std.proofs.Common.{is_some, sym, ap, ◌∙◌, arith}
 use Rattle.std.proofs.lemmas.Bool.{le-ltb}
 use Rattle.board.specs.Seating.{plan_of, tasks_on}
 use Rattle.board.specs.View.{standings_on}

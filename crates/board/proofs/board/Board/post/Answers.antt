@@ -1,5 +1,5 @@
 -- The faults in their order, and a job that is taken.
-use Rattle.std.proofs.Common.{◌≡◌, ℕ, ◌+◌, ◌<◌, ◌≤◌, List, length, set, sym, refl, ap, ◌∙◌, subst, arith}
+use Rattle.std.proofs.Common.{ℕ, ◌+◌, ◌<◌, List, length, sym, refl, ap, ◌∙◌, arith}
 use Rattle.fit.specs.Lane.{Standing, with_job}
 use Rattle.tasks.specs.declared.record.TaskRecord.{TaskRecord}
 use Rattle.board.specs.PlainBoard.{next_release, with_standing}

@@ -1,5 +1,5 @@
 -- Each turn serves one lane and puts its bit below the others.
-use Rattle.std.proofs.Common.{◌≡◌, ℕ, ◌-◌, ◌<◌, Bool, sym, subst, arith}
+use Rattle.std.proofs.Common.{ℕ, ◌-◌, Bool, sym, subst, arith}
 use Rattle.board.specs.PlainBoard.{closes_at_end}
 use Rattle.board.specs.Serving.{LaneServed}
 use Rattle.board.specs.View.{view}

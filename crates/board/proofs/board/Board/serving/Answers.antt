@@ -1,8 +1,6 @@
 -- The faults in their order, and the task that the lane serves.
-use Rattle.std.proofs.Common.{◌≡◌, ℕ, ◌<◌, ◌≤◌, not, [], ◌∷◌, length, sym, refl, ap, ◌∙◌, arith}
+use Rattle.std.proofs.Common.{◌<◌, not, [], length, sym, refl, ap, ◌∙◌, arith}
 use Rattle.std.proofs.lemmas.Bool.{le-leb, lt-leb}
-use Rattle.plan.specs.Placing.{order}
-use Rattle.board.specs.PlainBoard.{fault_if}
 use Rattle.board.specs.Seating.{plan_of, tasks_on}
 use Rattle.board.specs.View.{standings_on, view}
 use Rattle.board.specs.declared.call.Answer.TheVariants as answer

@@ -1,12 +1,12 @@
 -- The seats are those of the list and the plan, and nothing waits.
-use Rattle.std.proofs.Common.{◌≡◌, ℕ, false, List, map, replicate, sym, refl, ap, ◌∙◌, arith}
+use Rattle.std.proofs.Common.{ℕ, false, List, map, replicate, ap, ◌∙◌, arith}
 use Rattle.std.proofs.lemmas.Bool.{false≢true}
 use Rattle.fit.specs.Lane.{Standing, unreleased}
 use Rattle.tasks.specs.Filling.{tasks_of}
 use Rattle.tasks.specs.declared.list.TaskList.{TaskList}
 use Rattle.board.specs.Queues.{standing}
 use Rattle.board.specs.Seating.{plan_of, tasks_on}
-use Rattle.board.specs.View.{board_of, view}
+use Rattle.board.specs.View.{board_of}
 use Rattle.board.proofs.Next.{none-next}
 use Rattle.board.proofs.View.{fresh_board}
 use Rattle.board.proofs.board.Board.set_up.Goals as goal

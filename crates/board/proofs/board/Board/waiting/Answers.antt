@@ -1,5 +1,5 @@
 -- The task's queue counts what waits.
-use Rattle.std.proofs.Common.{◌≡◌, ℕ, ◌<◌, length, sym, refl, ap, ◌∙◌, arith}
+use Rattle.std.proofs.Common.{◌<◌, length, sym, refl, ap, ◌∙◌, arith}
 use Rattle.std.proofs.lemmas.Bool.{lt-leb}
 use Rattle.fit.specs.Lane.{Standing}
 use Rattle.board.specs.PlainBoard.{fault_if}

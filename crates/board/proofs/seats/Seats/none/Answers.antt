@@ -1,5 +1,5 @@
 -- A lane with no task has no late job.
-use Rattle.std.proofs.Common.{◌≡◌, ℕ, ◌<◌, length, sym, refl, ap, ◌∙◌, arith}
+use Rattle.std.proofs.Common.{ℕ, length, sym, refl, ap, ◌∙◌, arith}
 use Rattle.tasks.specs.Filling.{tasks_of}
 use Rattle.board.specs.Rows.{numbers_of}
 use Rattle.board.proofs.Empty.{empty_is_safe}

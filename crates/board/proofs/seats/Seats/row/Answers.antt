@@ -1,5 +1,5 @@
 -- The row of the lane.
-use Rattle.std.proofs.Common.{◌≡◌, ℕ, ◌<◌, eqb, List, [], length, get_or, sym, ap, ◌∙◌, subst, arith}
+use Rattle.std.proofs.Common.{ℕ, ◌<◌, eqb, List, [], length, get_or, sym, ◌∙◌, subst, arith}
 use Rattle.std.proofs.ByRecursion.{All-from_get_or, All-get_or, all_kept_by}
 use Rattle.std.proofs.lemmas.List.{get_or-map}
 use Rattle.plan.specs.Placing.{lane_of, order}

@@ -1,5 +1,5 @@
 -- A job waits at the first place that is taken.
-use Rattle.std.proofs.Common.{◌≡◌, ℕ, ◌+◌, ◌<◌, Bool, true, false, cond, length, get_or, drop, is_some, None, sym, ap, ◌∙◌, arith}
+use Rattle.std.proofs.Common.{◌≡◌, ℕ, ◌+◌, Bool, cond, length, get_or, drop, is_some, None, sym, ap, arith}
 use Rattle.std.proofs.lemmas.List.{drop_all}
 use Rattle.queue.proofs.Counts.{count_by-all}
 use Rattle.queue.specs.Queue.{held}

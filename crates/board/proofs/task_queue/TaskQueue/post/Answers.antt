@@ -1,9 +1,8 @@
 -- A job that is taken comes last; it is refused where four wait.
-use Rattle.std.proofs.Common.{◌≡◌, ◌+◌, ◌<◌, ◌≤◌, true, length, Some, sym, refl, ap, ◌∙◌, arith}
+use Rattle.std.proofs.Common.{true, length, Some, sym, refl, ap, ◌∙◌, arith}
 use Rattle.std.proofs.lemmas.List.{length-set}
-use Rattle.queue.specs.Queue.{count}
 use Rattle.board.specs.Queues.{jobs_of, standing}
-use Rattle.board.proofs.Queue.{jobs_push, length_releases, length-standing, none_later, put_room, releases, releases_full, releases_put, stand}
+use Rattle.board.proofs.Queue.{jobs_push, length_releases, length-standing, none_later, put_room, releases, releases_full, releases_put}
 use Rattle.board.proofs.task_queue.TaskQueue.post.Goals as goal
 
 pub invariant_of-self : goal.invariant_of-self

@@ -1,5 +1,5 @@
 -- The first job goes on, or it closes and the next is first; where none waits nothing changes.
-use Rattle.std.proofs.Common.{◌≡◌, ◌+◌, ◌-◌, ◌<◌, ◌≤◌, Bool, true, false, ◌||◌, leb, length, refl, ap, ◌∙◌, arith}
+use Rattle.std.proofs.Common.{◌≡◌, ◌+◌, Bool, true, false, ◌||◌, leb, refl, ap, ◌∙◌, arith}
 use Rattle.std.proofs.lemmas.Bool.Decides.{nat_tests}
 use Rattle.board.specs.Queues.{standing}
 use Rattle.board.proofs.Queue.{goes_on, length_jobs, length-standing, none_later_left, none_rests, releases, slot_ends, waits-none, waits-some}

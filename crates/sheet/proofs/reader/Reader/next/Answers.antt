@@ -1,4 +1,4 @@
-use Rattle.std.proofs.Common.{◌≡◌, ◌+◌, ◌-◌, ◌<◌, ◌≤◌, length, get_or, sym, refl, ap, ◌∙◌, subst, inl, inr, arith, rules}
+use Rattle.std.proofs.Common.{◌-◌, ◌<◌, ◌≤◌, length, refl, inl, inr, arith, rules}
 use Rattle.std.proofs.lemmas.List.{drop_all}
 use Rattle.sheet.proofs.Records.{bad-length, bad-name, name-long, name_prints, entry_there}
 use Rattle.sheet.specs.Reading.{entry_said}
