@@ -49,7 +49,15 @@ def turned(path, text, names):
     else:
         pieces = [("code", text)]
     turn = {"code": spelled, "comment": ticked, "string": lambda t, n: t}
-    return "".join(turn[kind](piece, names) for kind, piece in pieces)
+    return library_words("".join(turn[kind](piece, names) for kind, piece in pieces))
+
+
+def library_words(text):
+    """The library's words under their own names: the gate refuses another word under the name of a plain one."""
+    for word, short in re.findall(r"\b(\w+) as (All|Has)\b", text):
+        text = re.sub(rf"\b{word} as {short}\b", word, text)
+        text = spelled(text, {short: word})
+    return text
 
 
 def rewrite(path, turn):

@@ -1,6 +1,6 @@
 -- A job that no longer waits after a call was served in the slot that the call ended, and closed rightly.
 use Rattle.std.proofs.Common.{◌≡◌, ℕ, zero, suc, ◌+◌, ◌<◌, ◌≤◌, Bool, true, false, cond, leb, ◌⊎◌, List, [], ◌∷◌, length, get_or, take, set, Some, None, Option, sym, refl, ap, ◌∙◌, subst, inl, inr, ⊎_elim, arith}
-use Rattle.std.specs.List.{ContainsAt as Has}
+use Rattle.std.specs.List.{ContainsAt}
 use Rattle.std.proofs.ByRecursion.{has_append_left}
 use Rattle.std.proofs.lemmas.List.{get_or_past, get_or-set_other, get_or-set_same, set_past}
 use Rattle.std.proofs.lemmas.Bool.{cases_eq, cases_lt, leb-true, or_cases}
@@ -17,7 +17,7 @@ use Rattle.board.proofs.Run.{after_call_ways, counted-at}
 
 -- No job with the release waits.
 abbrev Gone : List Job → Job → Type 0
-Gone waiting job = (other : Job) → Has waiting other → other.release ≡ job.release → ⊥
+Gone waiting job = (other : Job) → ContainsAt waiting other → other.release ≡ job.release → ⊥
 
 -- The job of the task at this place was served and closed.
 record ServedAway (said : Bool) (row : List TaskRecord) (ss : List Standing) (place : ℕ) (job : Job) : Type 0 where
@@ -56,8 +56,8 @@ served_here said t row last j rest ss job (suc k) l at gone =
 -- The first task of the row, with these jobs, and those after it.
 served-from :
     (said : Bool) (t : TaskRecord) (row : List TaskRecord) (last : Option ℕ) (jobs : List Job) (ss : List Standing) (job : Job)
-    → ((p : ℕ) → Has (get_or ss p unreleased).waiting job → Gone (get_or (serve said row ss) p unreleased).waiting job → ServedAway said row ss p job)
-    → (place : ℕ) → Has (get_or (standing last jobs ∷ ss) place unreleased).waiting job
+    → ((p : ℕ) → ContainsAt (get_or ss p unreleased).waiting job → Gone (get_or (serve said row ss) p unreleased).waiting job → ServedAway said row ss p job)
+    → (place : ℕ) → ContainsAt (get_or (standing last jobs ∷ ss) place unreleased).waiting job
     → Gone (get_or (serve said (t ∷ row) (standing last jobs ∷ ss)) place unreleased).waiting job
     → ServedAway said (t ∷ row) (standing last jobs ∷ ss) place job
 served-from said t row last [] ss job below zero h gone = absurd (omega (arith, h.1))
@@ -69,7 +69,7 @@ served-from said t row last (j ∷ rest) ss job below (suc place) h gone = absur
 
 served_away :
     (said : Bool) (row : List TaskRecord) (ss : List Standing) (place : ℕ) (job : Job)
-    → Has (get_or ss place unreleased).waiting job → Gone (get_or (serve said row ss) place unreleased).waiting job
+    → ContainsAt (get_or ss place unreleased).waiting job → Gone (get_or (serve said row ss) place unreleased).waiting job
     → ServedAway said row ss place job
 served_away said [] ss place job h gone = absurd (gone job h refl)
 served_away said (t ∷ row) [] place job h gone = absurd (omega (arith, h.1))
@@ -112,7 +112,7 @@ module _ (b : PlainBoard) (task : ℕ) (job : Job) (inside : task < length b.tas
       })
       (λ past.
       absurd
-      (omega (arith, (subst (λ (ss : List Standing). Has (get_or ss place unreleased).waiting job) (get_or_past b.lanes own [] past) waits).1)))
+      (omega (arith, (subst (λ (ss : List Standing). ContainsAt (get_or ss place unreleased).waiting job) (get_or_past b.lanes own [] past) waits).1)))
       (cases_lt own (length b.lanes))
     where
       own : ℕ
@@ -131,14 +131,14 @@ module _ (b : PlainBoard) (task : ℕ) (job : Job) (inside : task < length b.tas
       let lane = lane_of b.plan posted in
       let place = task_place b posted in
       let s = standing_of b posted in
-      set_ways b.lanes lane own (set (lane_standings b lane) place (with_job b.clock s)) [] (λ (ss : List Standing). Has (get_or ss (task_place b task) unreleased).waiting job) waits
+      set_ways b.lanes lane own (set (lane_standings b lane) place (with_job b.clock s)) [] (λ (ss : List Standing). ContainsAt (get_or ss (task_place b task) unreleased).waiting job) waits
       (λ same-lane.
-      let here : Has (get_or (lane_standings b lane) (task_place b task) unreleased).waiting job =
-      subst (λ (k : ℕ). Has (get_or (lane_standings b k) (task_place b task) unreleased).waiting job) same-lane waits in
-      set_ways (lane_standings b lane) place (task_place b task) (with_job b.clock s) unreleased (λ (after : Standing). Has after.waiting job) here
+      let here : ContainsAt (get_or (lane_standings b lane) (task_place b task) unreleased).waiting job =
+      subst (λ (k : ℕ). ContainsAt (get_or (lane_standings b k) (task_place b task) unreleased).waiting job) same-lane waits in
+      set_ways (lane_standings b lane) place (task_place b task) (with_job b.clock s) unreleased (λ (after : Standing). ContainsAt after.waiting job) here
       (λ same_place.
       has_append_left s.waiting (record { release = b.clock; served = 0 } ∷ []) job
-      (subst (λ (k : ℕ). Has (get_or (lane_standings b lane) k unreleased).waiting job) same_place here)))
+      (subst (λ (k : ℕ). ContainsAt (get_or (lane_standings b lane) k unreleased).waiting job) same_place here)))
 
   gone_when_accepted : (call : Call) → Gone (standing_of (accepted_board b call) task).waiting job → Rightly b call task job
   gone_when_accepted (Post posted) gone = absurd (gone job (waits-after_post posted) refl)

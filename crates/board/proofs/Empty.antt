@@ -1,6 +1,6 @@
 -- A lane with no task has no late job.
 use Rattle.std.proofs.Common.{◌≡◌, ℕ, List, [], length, get_or, take, sym, refl, subst, arith}
-use Rattle.std.specs.List.{ContainsAt as Has}
+use Rattle.std.specs.List.{ContainsAt}
 use Rattle.fit.specs.Lane.{Lane, Reached, Releases, SafeLane, Standing, no_more, slot, starts, unreleased}
 use Rattle.plan.specs.Placing.{LanesAreSafe}
 use Rattle.tasks.specs.declared.record.TaskRecord.{TaskRecord}
@@ -14,8 +14,8 @@ none-stands (slot reached releases said) = none-released releases
 
 empty_row : SafeLane []
 empty_row i late =
-    let none : Has (get_or {A = Standing} [] i unreleased).waiting late.job =
-    subst (λ (ss : List Standing). Has (get_or ss i unreleased).waiting late.job) (none-stands late.reached) late.waits in
+    let none : ContainsAt (get_or {A = Standing} [] i unreleased).waiting late.job =
+    subst (λ (ss : List Standing). ContainsAt (get_or ss i unreleased).waiting late.job) (none-stands late.reached) late.waits in
     omega (arith, none.1)
 
 pub empty_is_safe : (lanes : ℕ) (plan : List ℕ) (tasks : List TaskRecord) → tasks ≡ [] → LanesAreSafe lanes tasks (take (length tasks) plan)

@@ -1,6 +1,6 @@
 -- The tasks of a lane by their numbers: which is served, what one slot leaves, and what a change of one task changes.
 use Rattle.std.proofs.Common.{◌≡◌, ℕ, zero, suc, ◌<◌, Bool, true, false, cond, ◌&&◌, eqb, ◌≢◌, ◌⊎◌, List, [], ◌∷◌, map, length, get_or, set, is_some, Some, None, filter, Option, sym, refl, ap, ◌∙◌, subst, inl, inr, ⊎_elim, arith}
-use Rattle.std.specs.List.{AllByRecursion as All}
+use Rattle.std.specs.List.{AllByRecursion}
 use Rattle.std.proofs.ByRecursion.{All-from_get_or, all_kept_by}
 use Rattle.std.proofs.lemmas.List.{get_or-set_other, get_or-set_same}
 use Rattle.std.proofs.lemmas.Bool.{both_ways, cond_both, eqb-false, eqb-true}
@@ -18,7 +18,7 @@ In x (y ∷ ys) = (y ≡ x) ⊎ In x ys
 
 abbrev pub Distinct : List ℕ → Type 0
 Distinct [] = Unit {0}
-Distinct (x ∷ xs) = All (λ y. y ≢ x) xs × Distinct xs
+Distinct (x ∷ xs) = AllByRecursion (λ y. y ≢ x) xs × Distinct xs
 
 pub in_at : (xs : List ℕ) (k : ℕ) → k < length xs → In (get_or xs k 0) xs
 in_at [] k h = absurd (omega arith)
@@ -105,7 +105,7 @@ module _ (ss : List Standing) where
       ]
 
   -- Another standing of one task leaves the others.
-  pub others : (n : ℕ) (s : Standing) (ns : List ℕ) → All (λ m. m ≢ n) ns → map (stands_at (set ss n s)) ns ≡ map (stands_at ss) ns
+  pub others : (n : ℕ) (s : Standing) (ns : List ℕ) → AllByRecursion (λ m. m ≢ n) ns → map (stands_at (set ss n s)) ns ≡ map (stands_at ss) ns
   others n s [] a = refl
   others n s (m ∷ ms) a =
       ap (λ (x : Standing). x ∷ map (stands_at (set ss n s)) ms) (get_or-set_other ss n m s unreleased a.0)
@@ -121,7 +121,7 @@ module _ (ss : List Standing) where
       let same = eqb-true m n e in
       let there : s ≡ stands_at (set ss n s) m = sym (ap (stands_at (set ss n s)) same ∙ get_or-set_same ss n s unreleased h) in
       ap (λ (x : Standing). x ∷ map (stands_at ss) ms) there
-      ∙ ap (λ xs. stands_at (set ss n s) m ∷ xs) (sym (others n s ms (subst (λ (x : ℕ). All (λ y. y ≢ x) ms) same d.0))))
+      ∙ ap (λ xs. stands_at (set ss n s) m ∷ xs) (sym (others n s ms (subst (λ (x : ℕ). AllByRecursion (λ y. y ≢ x) ms) same d.0))))
       (λ e.
       let apart = eqb-false m n e in
       ap (λ (x : Standing). x ∷ set (map (stands_at ss) ms) (place_among ms n) s) (sym (get_or-set_other ss n m s unreleased apart))
@@ -132,7 +132,7 @@ module _ (ss : List Standing) where
     after o = served_by tasks said ss o
 
     -- A task that is not among the numbers stands as before.
-    aside : (n : ℕ) (ns : List ℕ) → All (λ m. m ≢ n) ns → stands_at (after (first-number ns)) n ≡ stands_at ss n
+    aside : (n : ℕ) (ns : List ℕ) → AllByRecursion (λ m. m ≢ n) ns → stands_at (after (first-number ns)) n ≡ stands_at ss n
     aside n [] a = refl
     aside n (m ∷ ms) a =
         elim (has_job (stands_at ss m)) as (λ b. stands_at (after (cond b (Some m) (first-number ms))) n ≡ stands_at ss n) [
@@ -140,7 +140,7 @@ module _ (ss : List Standing) where
           | false ↦ aside n ms a.1
         ]
 
-    pub all_aside : (rest ns : List ℕ) → All (λ n. All (λ m. m ≢ n) ns) rest → map (stands_at (after (first-number ns))) rest ≡ map (stands_at ss) rest
+    pub all_aside : (rest ns : List ℕ) → AllByRecursion (λ n. AllByRecursion (λ m. m ≢ n) ns) rest → map (stands_at (after (first-number ns))) rest ≡ map (stands_at ss) rest
     all_aside [] ns a = refl
     all_aside (n ∷ rest) ns a =
         ap (λ (x : Standing). x ∷ map (stands_at (after (first-number ns))) rest) (aside n ns a.0)
@@ -158,7 +158,7 @@ module _ (ss : List Standing) where
 
     -- One slot of a lane: only the task that it serves changes.
     pub serve-first :
-        (ns : List ℕ) → Distinct ns → All (λ n. n < length ss) ns
+        (ns : List ℕ) → Distinct ns → AllByRecursion (λ n. n < length ss) ns
         → serve said (map (record_of tasks) ns) (map (stands_at ss) ns) ≡ map (stands_at (after (first-number ns))) ns
     serve-first [] d a = refl
     serve-first (n ∷ ns) d a =

@@ -1,6 +1,6 @@
 -- On a board whose lanes are safe a task always has room for its next job: no post is refused because too many wait.
 use Rattle.std.proofs.Common.{◌≡◌, ℕ, zero, suc, ◌*◌, ◌<◌, ◌≤◌, Bool, true, false, not, ◌&&◌, ltb, leb, List, [], ◌∷◌, map, length, get_or, Some, None, Option, sym, refl, subst, arith}
-use Rattle.std.specs.List.{AllByRecursion as All}
+use Rattle.std.specs.List.{AllByRecursion}
 use Rattle.std.proofs.ByRecursion.{all-has}
 use Rattle.std.proofs.lemmas.Bool.{leb-false, lt-leb, ltb-false}
 use Rattle.tasks.specs.declared.record.TaskRecord.{TaskRecord}
@@ -60,7 +60,7 @@ IfRefused (Waits many) = Unit {0}
 IfRefused (Tells clock) = Unit {0}
 IfRefused (Refused fault) = NotFull fault
 
-first_not_full : (faults : List (Option BoardFault)) → All IfAny faults → IfAny (first_fault faults)
+first_not_full : (faults : List (Option BoardFault)) → AllByRecursion IfAny faults → IfAny (first_fault faults)
 first_not_full [] h = tt
 first_not_full (None ∷ faults) h = first_not_full faults h.1
 first_not_full (Some fault ∷ faults) h = h.0
@@ -69,7 +69,7 @@ if_not_full : (applies : Bool) (fault : BoardFault) → NotFull fault → IfAny 
 if_not_full true fault h = h
 if_not_full false fault h = tt
 
-all-not_served : (b : PlainBoard) (finished : ℕ) (ks : List ℕ) → All IfAny (map (not_served b finished) ks)
+all-not_served : (b : PlainBoard) (finished : ℕ) (ks : List ℕ) → AllByRecursion IfAny (map (not_served b finished) ks)
 all-not_served b finished [] = tt
 all-not_served b finished (k ∷ ks) =
     (if_not_full (bit finished k && not (busy b k)) (NotServed k) tt, all-not_served b finished ks)
@@ -142,7 +142,7 @@ module _ (lanes : ℕ) (b : PlainBoard) (run : Run lanes b) (safe : LanesAreSafe
 
 answers_not_full :
     (lanes : ℕ) (b : PlainBoard) (calls : List Call) → Run lanes b → LanesAreSafe lanes b.tasks b.plan → LimitsCovered b.tasks
-    → All IfRefused (answers_to b calls)
+    → AllByRecursion IfRefused (answers_to b calls)
 answers_not_full lanes b [] run safe covered = tt
 answers_not_full lanes b (call ∷ calls) run safe covered = (
   answer_not_full lanes b run safe covered call,

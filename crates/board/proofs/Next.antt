@@ -1,6 +1,6 @@
 -- The task that a lane serves next: which one it can be, and what a change of one task leaves of it.
 use Rattle.std.proofs.Common.{◌≡◌, ℕ, ◌<◌, ◌≤◌, Bool, true, false, cond, ◌&&◌, eqb, ◌≢◌, List, [], ◌∷◌, length, get_or, set, replicate, IfSome, Some, None, Option, sym, refl, ap, ◌∙◌, subst, ⊎_elim, arith}
-use Rattle.std.specs.List.{AllByRecursion as All}
+use Rattle.std.specs.List.{AllByRecursion}
 use Rattle.std.proofs.ByRecursion.{All-from_get_or}
 use Rattle.std.proofs.lemmas.List.{get_or-replicate, get_or-set_other, get_or-set_same, get_or-take}
 use Rattle.std.proofs.lemmas.Bool.{and_left, and_parts, and_right, cases_eq, cond_both, cond-false, eq-eqb, eqb-true, false≢true, ne_eqb}
@@ -55,7 +55,7 @@ module _ (plan : List ℕ) (lane : ℕ) where
       ∙ next-none ss h ns
 
   -- Where no task sits on the lane there is none.
-  next_past : (ss : List Standing) (ns : List ℕ) → All (λ n. lane_of plan n ≢ lane) ns → next_on plan lane ss ns ≡ None
+  next_past : (ss : List Standing) (ns : List ℕ) → AllByRecursion (λ n. lane_of plan n ≢ lane) ns → next_on plan lane ss ns ≡ None
   next_past ss [] a = refl
   next_past ss (n ∷ ns) a =
       cond-false (serves ss n) (Some n) (next_on plan lane ss ns) (and_left (eqb (lane_of plan n) lane) (has_job (stands_at ss n)) (ne_eqb (lane_of plan n) lane a.0))
@@ -63,7 +63,7 @@ module _ (plan : List ℕ) (lane : ℕ) where
 
   -- It is one of these numbers, and sits on the lane.
   next_such :
-      (P : ℕ → Type 0) (ss : List Standing) (ns : List ℕ) → All P ns
+      (P : ℕ → Type 0) (ss : List Standing) (ns : List ℕ) → AllByRecursion P ns
       → IfSome (next_on plan lane ss ns) (λ n. P n × (lane_of plan n ≡ lane))
   next_such P ss [] a = tt
   next_such P ss (n ∷ ns) a =
@@ -95,7 +95,7 @@ module _ (plan : List ℕ) (lane : ℕ) where
         (λ (e : m ≡ n → ⊥). ap has_job (get_or-set_other ss n m s unreleased e))
         (cases_eq m n)))
 
-each_turn_inside : (tasks : List TaskRecord) → All (λ m. m < length tasks) (order tasks)
+each_turn_inside : (tasks : List TaskRecord) → AllByRecursion (λ m. m < length tasks) (order tasks)
 each_turn_inside tasks = All-from_get_or (λ m. m < length tasks) (order tasks) 0 (λ i l. turn-within tasks i (omega (arith, length-order tasks)))
 
 first_part : (P Q : ℕ → Type 0) (o : Option ℕ) → IfSome o (λ n. P n × Q n) → IfSome o P

@@ -1,6 +1,6 @@
 -- On a board whose lanes are safe no job that waits has reached its release plus its limit, whatever calls it took.
 use Rattle.std.proofs.Common.{◌≡◌, ℕ, zero, suc, ◌+◌, ◌<◌, ◌≤◌, ◌⊎◌, List, length, get_or, take, sym, ap, subst, inl, inr, ⊎_elim, arith}
-use Rattle.std.specs.List.{ContainsAt as Has}
+use Rattle.std.specs.List.{ContainsAt}
 use Rattle.std.proofs.ByRecursion.{has_push_cases}
 use Rattle.std.proofs.lemmas.Bool.{cases_lt}
 use Rattle.tasks.specs.declared.record.TaskRecord.{TaskRecord}
@@ -15,8 +15,8 @@ use Rattle.board.proofs.Run.{Run, WorksFit, kept_after_calls, run-after_calls, r
 -- A job that waits did so before the releases, or was just released.
 waits_or_came :
     {clock : ℕ} {row : List TaskRecord} {ss ss' : List Standing} → Releases clock row ss ss'
-    → (place : ℕ) (job : Job) → Has (get_or ss' place unreleased).waiting job
-    → Has (get_or ss place unreleased).waiting job ⊎ (job.release ≡ clock)
+    → (place : ℕ) (job : Job) → ContainsAt (get_or ss' place unreleased).waiting job
+    → ContainsAt (get_or ss place unreleased).waiting job ⊎ (job.release ≡ clock)
 waits_or_came no_more place job h = inl h
 waits_or_came (stays r) zero job h = inl h
 waits_or_came (stays r) (suc place) job h = waits_or_came r place job h

@@ -1,6 +1,6 @@
 -- The jobs of a task's queue, in order, after a put and after a take.
 use Rattle.std.proofs.Common.{◌≡◌, ℕ, suc, ◌+◌, ◌<◌, ◌≤◌, Bool, true, false, cond, ◌||◌, ltb, leb, List, [], ◌∷◌, ◌++◌, map, length, get_or, drop, is_some, Some, None, count_by, Option, unwrap_or, sym, refl, ap, ◌∙◌, subst, zero-add, one-add, arith}
-use Rattle.std.specs.List.{AllByRecursion as All}
+use Rattle.std.specs.List.{AllByRecursion}
 use Rattle.std.proofs.ByRecursion.{All-weaker}
 use Rattle.std.proofs.lemmas.List.{at_drop_more, length-map, length-set, map_push}
 use Rattle.std.proofs.lemmas.List.Sums.{sum_by_push}
@@ -48,7 +48,7 @@ not_later None clock h r e = let z : ◌≡◌ {A = ℕ} 0 1 = cc in absurd (ome
 not_later (Some last) clock h r e = grind (arith, nat_tests)
 
 module _ (last : Option ℕ) (clock : ℕ) (past : unwrap_or last 0 ≤ clock) (old : List (Option Release)) (none : count (later_than last) old ≡ 0) where
-  all_past : All (λ r. ltb clock r.at ≡ false) (releases old)
+  all_past : AllByRecursion (λ r. ltb clock r.at ≡ false) (releases old)
   all_past =
       All-weaker _ _ (not_later last clock past) (releases old)
       (none-from-count_by (later_than last) (releases old) (releases_counted (later_than last) old ∙ none))

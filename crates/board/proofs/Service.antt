@@ -1,6 +1,6 @@
 -- One slot of service, lane by lane from the last one down.
 use Rattle.std.proofs.Common.{◌≡◌, ℕ, ◌+◌, ◌-◌, ◌*◌, ◌<◌, ◌≤◌, Bool, true, false, cond, eqb, ◌≢◌, List, [], map, length, get_or, Some, None, Option, sym, refl, ap, ◌∙◌, subst, ⊎_elim, arith}
-use Rattle.std.specs.List.{AllByRecursion as All}
+use Rattle.std.specs.List.{AllByRecursion}
 use Rattle.std.proofs.ByRecursion.{All-from_get_or, all_kept_by, All-weaker, kept_by_passes}
 use Rattle.std.proofs.lemmas.List.{ext_get_or}
 use Rattle.std.proofs.lemmas.Bool.{cases_eq, cases_lt, eqb-true}
@@ -28,7 +28,7 @@ module _ (tasks : List TaskRecord) (plan : List ℕ) (ss : List Standing) (lane 
   abbrev next : Option ℕ
   next = next_on plan lane ss (order tasks)
 
-  numbers_within : length tasks ≤ length ss → All (λ n. n < length ss) ns
+  numbers_within : length tasks ≤ length ss → AllByRecursion (λ n. n < length ss) ns
   numbers_within few =
       all_kept_by (λ number. eqb (lane_of plan number) lane) (λ n. n < length ss) (order tasks)
       (All-from_get_or (λ n. n < length ss) (order tasks) 0
@@ -47,7 +47,7 @@ module _ (tasks : List TaskRecord) (plan : List ℕ) (ss : List Standing) (lane 
       let rest = numbers_on tasks plan other in
       ap (λ (o : Option ℕ). map (stands_at (served_by tasks said ss o)) rest) (next-first ss plan lane (order tasks))
       ∙ all_aside ss tasks said rest ns
-      (All-weaker (λ n. eqb (lane_of plan n) other ≡ true) (λ n. All (λ m. m ≢ n) ns)
+      (All-weaker (λ n. eqb (lane_of plan n) other ≡ true) (λ n. AllByRecursion (λ m. m ≢ n) ns)
       (λ n e.
       All-weaker (λ m. eqb (lane_of plan m) lane ≡ true) (λ m. m ≢ n)
       (λ m f same. differ (sym (eqb-true (lane_of plan n) other e) ∙ (ap (lane_of plan) (sym same) ∙ eqb-true (lane_of plan m) lane f)))

@@ -1,6 +1,6 @@
 -- A job that a post takes waits on the board after it.
 use Rattle.std.proofs.Common.{◌≡◌, ℕ, ◌<◌, List, [], length, get_or, take, set, None, sym, ap, ◌∙◌, subst, arith}
-use Rattle.std.specs.List.{ContainsAt as Has}
+use Rattle.std.specs.List.{ContainsAt}
 use Rattle.std.proofs.ByRecursion.{has_push}
 use Rattle.std.proofs.lemmas.List.{get_or-set_same}
 use Rattle.tasks.specs.declared.record.TaskRecord.{TaskRecord}
@@ -34,7 +34,7 @@ module _ (lanes : ℕ) (b : PlainBoard) (run : Run lanes b) where
   taken_by_post : (task : ℕ) → refusal b (Post task) ≡ None → Waits (after_call b (Post task)) task new_job
   taken_by_post task none =
       subst (λ (after : PlainBoard). Waits after task new_job) (sym (after-accepted b (Post task) none))
-      (subst (λ (s : Standing). Has s.waiting new_job)
+      (subst (λ (s : Standing). ContainsAt s.waiting new_job)
       (sym (standing-after_post task (accepted_post b task none).inside))
       (has_push (standing_of b task).waiting new_job))
 

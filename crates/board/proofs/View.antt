@@ -1,6 +1,6 @@
 -- The plain board that a board stands for: its lanes, its tasks, and what a change of one task changes.
 use Rattle.std.proofs.Common.{◌≡◌, ℕ, zero, suc, ◌+◌, ◌<◌, ◌≤◌, Bool, true, false, eqb, ◌≢◌, List, [], ◌∷◌, map, length, get_or, set, replicate, is_some, Some, None, sym, refl, ap, ◌∙◌, subst, ⊎_elim, zero-add, arith}
-use Rattle.std.specs.List.{AllByRecursion as All}
+use Rattle.std.specs.List.{AllByRecursion}
 use Rattle.std.proofs.ByRecursion.{All-weaker, kept_by_passes}
 use Rattle.std.proofs.lemmas.List.{ext_get_or, get_or-map, get_or_past, get_or-replicate, get_or-set_other, get_or-set_same, length-map, length-set}
 use Rattle.std.proofs.lemmas.Bool.{cases_eq, cases_lt, eq-eqb, eqb-true}
@@ -76,7 +76,7 @@ module _ (tasks : List TaskRecord) (lanes : ℕ) (plan : List ℕ) (ss : List St
         ∙ (get_or-map (stands_at ss) ns (place_among ns task) 0 unreleased at.0 ∙ ap (stands_at ss) at.1)
 
     -- A task of another lane is another task.
-    apart : (lane : ℕ) → lane ≢ lane_of plan task → All (λ n. n ≢ task) (numbers_on tasks plan lane)
+    apart : (lane : ℕ) → lane ≢ lane_of plan task → AllByRecursion (λ n. n ≢ task) (numbers_on tasks plan lane)
     apart lane other =
         All-weaker _ _ (λ n e same. other (sym (eqb-true (lane_of plan n) lane e) ∙ ap (lane_of plan) same)) (numbers_on tasks plan lane)
         (kept_by_passes (λ number. eqb (lane_of plan number) lane) (order tasks))

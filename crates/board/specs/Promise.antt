@@ -11,7 +11,7 @@ use Rattle.board.specs.declared.fault.BoardFault.{BoardFault}
 use Rattle.board.specs.declared.fault.BoardFault.TheVariants.{Plan, NoLane, NoTask, Early, QueueFull, SlotOpen, SlotShut, NotServed, ClockEnd}
 use Rattle.fit.specs.Lane.{Job, Reached, Releases, Standing}
 use Rattle.plan.specs.Placing.{Fails, LanesAreSafe, Passes, Places, Settled, lane_of, lane_row, record_of}
-use Rattle.std.specs.List.{ContainsAt as Has}
+use Rattle.std.specs.List.{ContainsAt}
 use Rattle.tasks.specs.declared.record.TaskRecord.{TaskRecord}
 
 -- How the tasks of a row stand: some run of the plain lane is at this clock, between two slots, and of its tasks
@@ -27,7 +27,7 @@ LanesRun b = (lane : ℕ) → lane < length b.lanes → LaneRun (lane_row b.task
 
 -- A job of the task waits on the board.
 abbrev pub Waits : PlainBoard → ℕ → Job → Type 0
-Waits b task job = Has (standing_of b task).waiting job
+Waits b task job = ContainsAt (standing_of b task).waiting job
 
 -- A job that a post takes waits after it: released at the post's clock, and served no slot.
 abbrev pub Taken : PlainBoard → Call → Type 0
@@ -92,7 +92,7 @@ AlwaysTold b calls = (k finished : ℕ) → k ≤ length calls → ClosingsAreTo
 
 -- No answer refuses a job because as many of its task wait as may.
 abbrev pub NeverFull : List Answer → Type 0
-NeverFull answers = (task : ℕ) → Has answers (Refused (QueueFull task)) → ⊥
+NeverFull answers = (task : ℕ) → ContainsAt answers (Refused (QueueFull task)) → ⊥
 
 -- Below, `yes-to` is the fit test's set of questions with a yes, and the list has these tasks on so many lanes.
 module _ (yes-to : List TaskRecord → TaskRecord → Type 0) (lanes : ℕ) (tasks : List TaskRecord) where

@@ -1,6 +1,6 @@
 -- The waiting jobs of a task are a gap apart, so a safe task has few of them.
 use Rattle.std.proofs.Common.{◌≡◌, ℕ, zero, suc, ◌+◌, ◌*◌, ◌<◌, ◌≤◌, Bool, true, false, cond, ◌⊎◌, List, [], ◌∷◌, ◌++◌, map, length, get_or, IfSome, Some, None, Option, sym, refl, ap, subst, inl, inr, ⊎_elim, mul-le-mul_right, suc-mul, zero-mul, arith, MatchOption}
-use Rattle.std.specs.List.{ContainsAt as Has}
+use Rattle.std.specs.List.{ContainsAt}
 use Rattle.std.proofs.lemmas.List.{length_push}
 use Rattle.std.proofs.lemmas.Bool.{cases_lt}
 use Rattle.tasks.specs.declared.record.TaskRecord.{TaskRecord}
@@ -97,7 +97,7 @@ full-is-late row i places l covered reached may w many =
       lane = l;
       reached = reached;
       job = w.first;
-      waits = subst (λ (jobs : List Job). Has jobs w.first) (sym w.is) (0, omega arith, λ d. refl);
+      waits = subst (λ (jobs : List Job). ContainsAt jobs w.first) (sym w.is) (0, omega arith, λ d. refl);
       past =
           omega (
             arith,

@@ -3,19 +3,19 @@ use Rattle.std.proofs.Common.{◌≡◌, ℕ, ◌+◌, ◌<◌, ◌≤◌, Bool,
 use Rattle.std.proofs.ByRecursion.{All-get_or, All-more}
 use Rattle.std.proofs.lemmas.List.{take_all}
 use Rattle.std.proofs.lemmas.Bool.{false≢true}
-use Rattle.std.specs.List.{AllByRecursion as All}
+use Rattle.std.specs.List.{AllByRecursion}
 
 module _ {X : Type 0} (P : X → Type 0) (xs : List X) (i : ℕ) where
-  pub scan_stops : (d : X) (r : Bool) → i < length xs → r ≡ false → Decides r (P (get_or xs i d)) → Decides false (All P xs)
+  pub scan_stops : (d : X) (r : Bool) → i < length xs → r ≡ false → Decides r (P (get_or xs i d)) → Decides false (AllByRecursion P xs)
   scan_stops d r inside fails told = (λ e. absurd (false≢true e), λ all. sym fails ∙ told.1 (All-get_or P xs i d inside all))
 
-  pub scan_goes : (d : X) (r : Bool) → i < length xs → r ≡ true → Decides r (P (get_or xs i d)) → All P (take i xs) → All P (take (i + 1) xs)
+  pub scan_goes : (d : X) (r : Bool) → i < length xs → r ≡ true → Decides r (P (get_or xs i d)) → AllByRecursion P (take i xs) → AllByRecursion P (take (i + 1) xs)
   scan_goes d r inside passes told before = All-more P xs i d inside before (told.0 passes)
 
-  pub scan_ends : length xs ≤ i → All P (take i xs) → Decides true (All P xs)
-  scan_ends past before = (λ _. subst (All P) (take_all i xs past) before, λ _. refl)
+  pub scan_ends : length xs ≤ i → AllByRecursion P (take i xs) → Decides true (AllByRecursion P xs)
+  scan_ends past before = (λ _. subst (AllByRecursion P) (take_all i xs past) before, λ _. refl)
 
 -- What follows from two properties holds of all elements that have both.
-pub all_both : {X : Type 0} (P Q R : X → Type 0) → ((x : X) → P x → Q x → R x) → (xs : List X) → All P xs → All Q xs → All R xs
+pub all_both : {X : Type 0} (P Q R : X → Type 0) → ((x : X) → P x → Q x → R x) → (xs : List X) → AllByRecursion P xs → AllByRecursion Q xs → AllByRecursion R xs
 all_both P Q R f [] p q = tt
 all_both P Q R f (x ∷ xs) p q = (f x p.0 q.0, all_both P Q R f xs p.1 q.1)

@@ -7,7 +7,7 @@ use Rattle.fit.proofs.Scans.{all_both}
 use Rattle.fit.specs.Fractions.{Fraction, LinearIsTheStandard, RBF*, utilization, whole, Σᶠ, ◌*ᶠ◌, ◌+ᶠ◌, ◌-ᶠ◌, ◌≥ᶠ◌}
 use Rattle.fit.specs.Tests.{line, share}
 use Rattle.std.proofs.lemmas.List.Sums.{sum_by-cons}
-use Rattle.std.specs.List.{AllByRecursion as All}
+use Rattle.std.specs.List.{AllByRecursion}
 use Rattle.tasks.specs.Task.{Bounded, OnGrid, widest_grid}
 use Rattle.tasks.specs.declared.record.TaskRecord.{TaskRecord}
 
@@ -117,7 +117,7 @@ module _ (G : ℕ) where
         worth = scaled_worth G v.n x.denominator k c v.worth;
       }
 
-  worth_sum : (f : TaskRecord → Fraction) (g : TaskRecord → ℕ) (row : List TaskRecord) → All (λ t. Worth G (f t) (g t)) row → Worth G (Σᶠ f row) (sum_by g row)
+  worth_sum : (f : TaskRecord → Fraction) (g : TaskRecord → ℕ) (row : List TaskRecord) → AllByRecursion (λ t. Worth G (f t) (g t)) row → Worth G (Σᶠ f row) (sum_by g row)
   worth_sum f g [] h = record { n = 0; is = refl; proper = omega arith; worth = zero-mul G }
   worth_sum f g (t ∷ row) h = subst (Worth G (Σᶠ f (t ∷ row))) (sym (sum_by-cons g t row)) (worth_add h.0 (worth_sum f g row h.1))
 

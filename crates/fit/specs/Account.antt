@@ -1,7 +1,7 @@
 -- The account of a busy window: per task, how many of its jobs closed since the window's start, and the slots that it was served.
 use Rattle.std.specs.Prelude.{◌≡◌, ℕ, zero, suc, ◌+◌, ◌*◌, ◌<◌, ◌≤◌, Bool, true, false, cond, ◌⊎◌, List, [], ◌∷◌, ◌++◌, length, Option, nat_le, slice_index_or, refl}
 use Rattle.std.proofs.Common.{sym, ap, subst, ◌∙◌, inl, inr, ⊎_elim, zero-mul, suc-mul, add-mul, one-mul, not-suc-le-zero, le_of_suc-le-suc, arith}
-use Rattle.std.specs.List.{ContainsAt as Has, AllByRecursion as All}
+use Rattle.std.specs.List.{ContainsAt, AllByRecursion}
 use Rattle.std.proofs.ByRecursion.{All-push}
 use Rattle.std.proofs.lemmas.List.{length_push}
 use Rattle.std.proofs.lemmas.Bool.{leb-false, or_parts}
@@ -18,7 +18,7 @@ begun (j ∷ rest) = j.served
 -- Of the waiting jobs only the first was served at all, and less than its work.
 abbrev pub Unfinished : ℕ → List Job → Type 0
 Unfinished work [] = Unit {0}
-Unfinished work (j ∷ rest) = (j.served < work) × All (λ k. k.served ≡ 0) rest
+Unfinished work (j ∷ rest) = (j.served < work) × AllByRecursion (λ k. k.served ≡ 0) rest
 
 -- The waiting jobs are the releases of the window from number `closed` on: each is released at least so many gaps after its start.
 abbrev pub Spaced : ℕ → ℕ → ℕ → List Job → Type 0
@@ -118,7 +118,7 @@ account_goes_on last j rest under h =
       before = h.before;
     }
 
-rest_unfinished : (work : ℕ) (jobs : List Job) → 1 ≤ work → All (λ k. k.served ≡ 0) jobs → Unfinished work jobs
+rest_unfinished : (work : ℕ) (jobs : List Job) → 1 ≤ work → AllByRecursion (λ k. k.served ≡ 0) jobs → Unfinished work jobs
 rest_unfinished work [] h fresh = tt
 rest_unfinished work (j ∷ rest) h fresh = (omega (arith, fresh.0), fresh.1)
 
@@ -201,7 +201,7 @@ begun_short work (j ∷ rest) h u = u.0
 
 -- A waiting job is some release of the window, number n from 0: the task was served less than the works up to and with it.
 pub waiting_release : {from clock closed served : ℕ} {t : TaskRecord} {s : Standing} (job : Job) →
-    Account from clock t s closed served → Has s.waiting job →
+    Account from clock t s closed served → ContainsAt s.waiting job →
     (n : ℕ) × (from + n * t.gap ≤ job.release) × (served < (n + 1) * t.work)
 waiting_release {from} {clock} {closed} {served} {t} {s} job h has = (closed + has.0, released, short)
   where

@@ -1,7 +1,7 @@
 -- The exact rule: with a gap no shorter than the time, no busy window of a lane reaches the time, and so no job waits for it.
 use Rattle.std.specs.Prelude.{◌≡◌, ℕ, ◌+◌, ◌*◌, ◌<◌, ◌≤◌, Bool, true, false, cond, ◌⊎◌, List, [], ◌∷◌, length, sum_by}
 use Rattle.std.proofs.Common.{ap, ◌∙◌, inl, inr, add-mul, one-mul, mul-le-mul_right, lt_of_mul-lt-mul_right, arith}
-use Rattle.std.specs.List.{AllByRecursion as All}
+use Rattle.std.specs.List.{AllByRecursion}
 use Rattle.std.proofs.lemmas.List.{length_push, nil_from_length}
 use Rattle.std.proofs.lemmas.List.Sums.{sum_by-cons}
 use Rattle.tasks.specs.declared.record.TaskRecord.{TaskRecord}
@@ -15,7 +15,7 @@ use Rattle.fit.specs.Window.{Accounts, accounts_start, accounts_releases, accoun
 
 -- In a window no longer than the time the row was served at most the counted works.
 row_count : (time : ℕ) (count : TaskRecord → ℕ) (from clock : ℕ) (row : List TaskRecord) (ss : List Standing) (total : ℕ) →
-    clock ≤ from + time → All (λ t. time ≤ count t * t.gap) row → Accounts from clock row ss total →
+    clock ≤ from + time → AllByRecursion (λ t. time ≤ count t * t.gap) row → Accounts from clock row ss total →
     total ≤ sum_by (λ t. count t * t.work) row
 row_count time count from clock [] [] total short counts h = omega (arith, h)
 row_count time count from clock [] (s ∷ ss) total short counts h = elim h [ ]
@@ -41,9 +41,9 @@ row_count time count from clock (t ∷ row) (s ∷ ss) total short counts h =
 -- The rule's premises.
 record Rule (row : List TaskRecord) (asked : TaskRecord) (time : ℕ) (count : TaskRecord → ℕ) : Type 0 where
   within_gap : time ≤ asked.gap
-  proper : All Proper row
+  proper : AllByRecursion Proper row
   one : Proper asked
-  counts : All (λ t. time ≤ count t * t.gap) row
+  counts : AllByRecursion (λ t. time ≤ count t * t.gap) row
   fits : asked.work + sum_by (λ t. count t * t.work) row ≤ time
 
 -- A window shorter than the time, in which the last task has closed no job, and at most one waits.

@@ -1,7 +1,7 @@
 -- The two inequalities of the standard, over exact fractions, and what it is for the linear test to be the standard.
 use Rattle.std.specs.Prelude.{ℕ, ◌*◌, ◌≤◌, ◌↔◌, List, [], ◌∷◌, ℤ, pos, ◌+ℤ◌, ◌-ℤ◌, ◌*ℤ◌, ◌≤ℤ◌}
 use Rattle.fit.specs.Tests.{Askable, LinearYes}
-use Rattle.std.specs.List.{AllByRecursion as All}
+use Rattle.std.specs.List.{AllByRecursion}
 use Rattle.tasks.specs.Task.{GridRange, OnGrid}
 use Rattle.tasks.specs.declared.record.TaskRecord.{TaskRecord}
 
@@ -72,7 +72,7 @@ pub record Standard (row : List TaskRecord) (asked : TaskRecord) : Type 0 where
 -- A row of at most 31 tasks and one more, all within their bounds, with gaps that divide the grid.
 pub record LawfulQuestion (grid : ℕ) (row : List TaskRecord) (asked : TaskRecord) : Type 0 where
   pub askable : Askable row asked
-  pub row_on_grid : All (OnGrid grid) row
+  pub row_on_grid : AllByRecursion (OnGrid grid) row
   pub asked_on_grid : OnGrid grid asked
 
 -- To such a question, the linear test over the grid says yes exactly where the standard does.

@@ -1,7 +1,7 @@
 -- The plain lane: one processor that serves a row of tasks by fixed priority, slot by slot.
 -- A slot is one tick of the clock. The earlier a task stands in the row, the sooner it is served.
 use Rattle.std.specs.Prelude.{ℕ, ◌+◌, ◌≤◌, Bool, cond, ◌||◌, List, [], ◌∷◌, ◌++◌, map, IfSome, Some, None, Option, nat_le, slice_index_or}
-use Rattle.std.specs.List.{ContainsAt as Has}
+use Rattle.std.specs.List.{ContainsAt}
 use Rattle.tasks.specs.declared.record.TaskRecord.{TaskRecord}
 
 -- A job that waits: the clock at its release, and the slots that it was served.
@@ -86,7 +86,7 @@ pub record WaitsPast (row : List TaskRecord) (i time : ℕ) : Type 0 where
   pub lane : Lane
   pub reached : Reached row lane
   pub job : Job
-  pub waits : Has (slice_index_or lane.standings i unreleased).waiting job
+  pub waits : ContainsAt (slice_index_or lane.standings i unreleased).waiting job
   pub past : job.release + time ≤ lane.clock
 
 -- Some run of the row has a late job of its task i: it waits past its limit.

@@ -10,11 +10,11 @@ use Rattle.fit.specs.Tests.{ExactYes, LinearYes, rounded_up, share}
 use Rattle.fit.specs.Theorems.{Covers, Proper}
 use Rattle.std.proofs.lemmas.Nat.{div-add-mod'}
 use Rattle.std.proofs.ByRecursion.{All-weaker}
-use Rattle.std.specs.List.{AllByRecursion as All}
+use Rattle.std.specs.List.{AllByRecursion}
 use Rattle.tasks.specs.Task.{Bounded, GridRange, OnGrid, widest_grid}
 use Rattle.tasks.specs.declared.record.TaskRecord.{TaskRecord}
 
-all_proper : (row : List TaskRecord) → All (Bounded widest_grid) row → All Proper row
+all_proper : (row : List TaskRecord) → AllByRecursion (Bounded widest_grid) row → AllByRecursion Proper row
 all_proper = All-weaker (Bounded widest_grid) Proper (bounded_is_proper widest_grid)
 
 -- Where the gap divides the grid, the share is the fraction itself.

@@ -1,7 +1,7 @@
 -- The first tasks of a lane, in any run of it, make a run of the lane of those tasks alone.
 use Rattle.std.specs.Prelude.{◌≡◌, ℕ, suc, ◌+◌, ◌<◌, ◌≤◌, Bool, ◌⊎◌, List, [], ◌∷◌, ◌++◌, map, length, get_or, take, drop, slice_index_or, refl}
 use Rattle.std.proofs.Common.{sym, ap, subst, ◌∙◌, inl, inr, ⊎_elim, arith, not-suc-le-zero}
-use Rattle.std.specs.List.{ContainsAt as Has}
+use Rattle.std.specs.List.{ContainsAt}
 use Rattle.std.proofs.lemmas.List.{take-append-drop, take_more, length-map, length_push, length-take-le, get_or-take, get_or_past, get_or_push}
 use Rattle.std.proofs.lemmas.Bool.{cases_lt}
 use Rattle.tasks.specs.declared.record.TaskRecord.{TaskRecord}
@@ -84,8 +84,8 @@ nobody_past_the_end row i time h late = not-suc-le-zero none.1
     past_the_end : length late.lane.standings ≤ i
     past_the_end = omega (arith, length_reached row late.reached)
 
-    none : Has [] late.job
-    none = subst (λ (s : Standing). Has s.waiting late.job) (get_or_past late.lane.standings i unreleased past_the_end) late.waits
+    none : ContainsAt [] late.job
+    none = subst (λ (s : Standing). ContainsAt s.waiting late.job) (get_or_past late.lane.standings i unreleased past_the_end) late.waits
 
 -- The row is the lane up to its task k, and what stands below that.
 row_from_up_to : (row : List TaskRecord) (k : ℕ) → k < length row → row ≡ up_to row k ++ drop (k + 1) row

@@ -1,7 +1,7 @@
 -- The share rule: over any scale and any shares that are at least their fractions, no job waits for the time that the rule gives.
 use Rattle.std.specs.Prelude.{◌≡◌, ℕ, zero, suc, ◌+◌, ◌-◌, ◌*◌, ◌<◌, ◌≤◌, List, [], ◌∷◌, length, sum_by}
 use Rattle.std.proofs.Common.{ap, mul-zero, zero-mul, suc-mul, mul-add, add-mul, mul-one, one-mul, mul_left_comm, mul-le-mul_left, mul-le-mul_right, arith}
-use Rattle.std.specs.List.{AllByRecursion as All}
+use Rattle.std.specs.List.{AllByRecursion}
 use Rattle.std.proofs.lemmas.List.Sums.{sum_by-cons}
 use Rattle.tasks.specs.declared.record.TaskRecord.{TaskRecord}
 use Rattle.fit.specs.Lane.{Standing}
@@ -34,7 +34,7 @@ share_covers scale share work gap (suc n) slots span covers within spaced =
 
 -- The row was served at most, of each task, its work and its share of the window.
 row_share : (scale : ℕ) (share : TaskRecord → ℕ) (from clock span : ℕ) (row : List TaskRecord) (ss : List Standing) (total : ℕ) →
-    from + span ≡ clock → All (Covers scale share) row → Accounts from clock row ss total →
+    from + span ≡ clock → AllByRecursion (Covers scale share) row → Accounts from clock row ss total →
     scale * total ≤ sum_by (λ t. scale * t.work + share t * span) row
 row_share scale share from clock span [] [] total e covers h = omega (arith, ap (λ (n : ℕ). scale * n) h, mul-zero scale)
 row_share scale share from clock span [] (s ∷ ss) total e covers h = elim h [ ]

@@ -1,7 +1,7 @@
 -- A run of a lane seen as its row and, beside it, the last task, which is served only in slots that the row leaves.
 use Rattle.std.specs.Prelude.{◌≡◌, ℕ, ◌+◌, Bool, ◌⊎◌, List, [], ◌∷◌, ◌++◌, map, length, slice_index_or, refl}
 use Rattle.std.proofs.Common.{sym, ap, subst, ◌∙◌, inl, inr, arith}
-use Rattle.std.specs.List.{ContainsAt as Has, AllByRecursion as All}
+use Rattle.std.specs.List.{ContainsAt, AllByRecursion}
 use Rattle.std.proofs.lemmas.List.{length-map, map_push, get_or_push}
 use Rattle.tasks.specs.declared.record.TaskRecord.{TaskRecord}
 use Rattle.fit.specs.Lane.{Job, Standing, Lane, unreleased, MayRelease, with_job, Releases, no_more, stays, comes, after_service, serve, Reached, starts, slot}
@@ -10,7 +10,7 @@ use Rattle.fit.specs.Service.{Waiting, idle_or_waiting, serve_idle, serve_waitin
 
 -- Nothing waits.
 abbrev pub Idle : List Standing → Type 0
-Idle ss = All (λ s. s.waiting ≡ []) ss
+Idle ss = AllByRecursion (λ s. s.waiting ≡ []) ss
 
 -- Some job waits.
 abbrev pub Busy : List Standing → Type 0
@@ -186,9 +186,9 @@ seen row asked (slot {l = l} {standings = all} reached releases said) = go (seen
 
 -- The last task's standing is the one at the row's end.
 pub asked_waits : {row : List TaskRecord} {asked : TaskRecord} {l : Lane} {job : Job} (v : Seen row asked l) →
-    Has (slice_index_or l.standings (length row) unreleased).waiting job → Has v.asked_standing.waiting job
+    ContainsAt (slice_index_or l.standings (length row) unreleased).waiting job → ContainsAt v.asked_standing.waiting job
 asked_waits {row} {l = l} {job = job} v has =
-    subst (λ (s : Standing). Has s.waiting job)
+    subst (λ (s : Standing). ContainsAt s.waiting job)
     (ap (λ (ss : List Standing). slice_index_or ss (length row) unreleased) v.is
     ∙ get_or_push v.row_standings v.asked_standing unreleased (length row) (length_beside v.run))
     has

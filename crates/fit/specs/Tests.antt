@@ -1,7 +1,7 @@
 -- The questions that each fit test answers with yes.
 -- A task has work e, limit d and gap p; those of the row are e_j, d_j and p_j.
 use Rattle.std.specs.Prelude.{◌≡◌, ℕ, ◌+◌, ◌*◌, ◌/◌, ◌%◌, ◌≤◌, min, ◌⊎◌, List, map, length, Ok, Err, sum_by, Result}
-use Rattle.std.specs.List.{AllByRecursion as All}
+use Rattle.std.specs.List.{AllByRecursion}
 use Rattle.tasks.specs.Task.{Bounded, OnGrid, widest_grid}
 use Rattle.tasks.specs.declared.fault.ListFault.{ListFault}
 use Rattle.tasks.specs.declared.fault.ListFault.TheVariants.{OutOfRange}
@@ -11,7 +11,7 @@ use Rattle.tasks.specs.declared.record.TaskRecord.{TaskRecord}
 -- What is asked of a question before any rule: a row of at most 31 tasks, and each task within its bounds.
 pub record Askable (row : List TaskRecord) (asked : TaskRecord) : Type 0 where
   pub short : length row ≤ 31
-  pub row_bounded : All (Bounded widest_grid) row
+  pub row_bounded : AllByRecursion (Bounded widest_grid) row
   pub asked_bounded : Bounded widest_grid asked
 
 -- ---- Linear
@@ -28,7 +28,7 @@ line grid time t = grid * t.work + share grid t * time
 -- The linear test: both of its inequalities, times the grid.
 pub record LinearYes (grid : ℕ) (row : List TaskRecord) (asked : TaskRecord) : Type 0 where
   pub askable : Askable row asked
-  pub row_on_grid : All (OnGrid grid) row
+  pub row_on_grid : AllByRecursion (OnGrid grid) row
   pub asked_on_grid : OnGrid grid asked
   -- Fisher, Baruah and Baker, ECRTS 2006, inequality 5: G*e + Σ (G*e_j + e_j*(G/p_j)*d) ≤ G*d
   pub in_time : grid * asked.work + sum_by (line grid asked.limit) row ≤ grid * asked.limit
@@ -87,7 +87,7 @@ Room cost t = (t.work + cost ≤ t.limit) × (t.work + cost ≤ t.gap)
 pub record SurchargeYes (cost : ℕ) (yes-below : List TaskRecord → TaskRecord → Type 0) (row : List TaskRecord) (asked : TaskRecord)
     : Type 0 where
   pub askable : Askable row asked
-  pub row_room : All (Room cost) row
+  pub row_room : AllByRecursion (Room cost) row
   pub asked_room : Room cost asked
   pub below : yes-below (map (raised cost) row) (raised cost asked)
 

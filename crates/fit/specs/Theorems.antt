@@ -1,6 +1,6 @@
 -- What is proved of every run of a plain lane. The functions of `theorems` have these statements for contracts.
 use Rattle.std.specs.Prelude.{◌≡◌, ℕ, ◌+◌, ◌*◌, ◌<◌, ◌≤◌, List, [], ◌∷◌, ◌++◌, length, get_or, take, Some, sum_by, slice_index_or}
-use Rattle.std.specs.List.{AllZip, AllByRecursion as All}
+use Rattle.std.specs.List.{AllZip, AllByRecursion}
 use Rattle.tasks.specs.declared.record.TaskRecord.{TaskRecord}
 use Rattle.fit.specs.Lane.{Job, Lane, unreleased, MayRelease, Reached, WaitsPast, LateJob, SafeTask, SafeLane, no_task}
 
@@ -57,9 +57,9 @@ abbrev pub SharesBoundWaiting : Type 0
 SharesBoundWaiting =
     (scale : ℕ) (share : TaskRecord → ℕ) (row : List TaskRecord) (asked : TaskRecord) (time : ℕ) →
     1 ≤ scale →
-    All Proper row →
+    AllByRecursion Proper row →
     Proper asked →
-    All (Covers scale share) row →
+    AllByRecursion (Covers scale share) row →
     Covers scale share asked →
     scale * asked.work + sum_by (λ t. scale * t.work + share t * time) row ≤ scale * time →
     share asked + sum_by share row ≤ scale →
@@ -73,9 +73,9 @@ abbrev pub CountsBoundWaiting : Type 0
 CountsBoundWaiting =
     (row : List TaskRecord) (asked : TaskRecord) (time : ℕ) (count : TaskRecord → ℕ) →
     time ≤ asked.gap →
-    All Proper row →
+    AllByRecursion Proper row →
     Proper asked →
-    All (λ t. time ≤ count t * t.gap) row →
+    AllByRecursion (λ t. time ≤ count t * t.gap) row →
     asked.work + sum_by (λ t. count t * t.work) row ≤ time →
     WaitsPast (row ++ (asked ∷ [])) (length row) time →
     ⊥

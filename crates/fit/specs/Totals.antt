@@ -4,7 +4,7 @@ use Rattle.std.proofs.Common.{ap, ◌∙◌, add-mul, one-mul, arith}
 use Rattle.std.proofs.lemmas.Nat.{mul-le}
 use Rattle.std.proofs.lemmas.List.{take_all}
 use Rattle.std.proofs.lemmas.List.Sums.{sum_by-cons, sum_by_more}
-use Rattle.std.specs.List.{AllByRecursion as All}
+use Rattle.std.specs.List.{AllByRecursion}
 
 -- So far: the sum of the first i, which are at most m each.
 pub record Total {X : Type 0} (f : X → ℕ) (m : ℕ) (xs : List X) (i sum : ℕ) : Type 0 where
@@ -20,6 +20,6 @@ module _ {X : Type 0} (f : X → ℕ) (m : ℕ) (xs : List X) (i sum : ℕ) (so_
   total_ends n past short = (so_far.value ∙ ap (sum_by f) (take_all i xs past), omega (arith, so_far.bound, mul-le i m n m short (omega arith)))
 
 -- A sum grows with its terms.
-pub sum_by_grows : {X : Type 0} (f g : X → ℕ) (xs : List X) → All (λ x. f x ≤ g x) xs → sum_by f xs ≤ sum_by g xs
+pub sum_by_grows : {X : Type 0} (f g : X → ℕ) (xs : List X) → AllByRecursion (λ x. f x ≤ g x) xs → sum_by f xs ≤ sum_by g xs
 sum_by_grows f g [] h = omega arith
 sum_by_grows f g (x ∷ xs) h = omega (arith, sum_by-cons f x xs, sum_by-cons g x xs, h.0, sum_by_grows f g xs h.1)

@@ -1,7 +1,7 @@
 -- Every state of a lane ends a busy window: since its start each slot was served, and each task has an account.
 use Rattle.std.specs.Prelude.{◌≡◌, ℕ, ◌+◌, ◌≤◌, Bool, List, [], ◌∷◌, length, refl}
 use Rattle.std.proofs.Common.{sym, subst, inl, inr, arith}
-use Rattle.std.specs.List.{AllByRecursion as All}
+use Rattle.std.specs.List.{AllByRecursion}
 use Rattle.tasks.specs.declared.record.TaskRecord.{TaskRecord}
 use Rattle.fit.specs.Lane.{Standing, Releases, no_more, stays, comes, serve}
 use Rattle.fit.specs.Theorems.{Proper}
@@ -18,7 +18,7 @@ Accounts from clock (t ∷ row) [] total = ⊥
 Accounts from clock (t ∷ row) (s ∷ ss) total =
     (closed : ℕ) × (served : ℕ) × (rest : ℕ) × (total ≡ served + rest) × Account from clock t s closed served × Accounts from clock row ss rest
 
-pub accounts_start : (from : ℕ) (row : List TaskRecord) (ss : List Standing) → All Proper row → length ss ≡ length row → Idle ss →
+pub accounts_start : (from : ℕ) (row : List TaskRecord) (ss : List Standing) → AllByRecursion Proper row → length ss ≡ length row → Idle ss →
     Accounts from from row ss 0
 accounts_start from [] [] proper h idle = refl
 accounts_start from [] (s ∷ ss) proper h idle = absurd (omega arith)
@@ -26,7 +26,7 @@ accounts_start from (t ∷ row) [] proper h idle = absurd (omega arith)
 accounts_start from (t ∷ row) (s ∷ ss) proper h idle =
     (0, 0, 0, refl, account_start from t s proper.0 idle.0, accounts_start from row ss proper.1 (omega arith) idle.1)
 
-pub accounts_releases : {clock : ℕ} {row : List TaskRecord} {ss ss' : List Standing} (from total : ℕ) → All Proper row → from ≤ clock →
+pub accounts_releases : {clock : ℕ} {row : List TaskRecord} {ss ss' : List Standing} (from total : ℕ) → AllByRecursion Proper row → from ≤ clock →
     Releases clock row ss ss' → Accounts from clock row ss total → Accounts from (clock + 1) row ss' total
 accounts_releases from total proper late no_more h = h
 accounts_releases from total proper late (stays r) h =
@@ -35,7 +35,7 @@ accounts_releases from total proper late (comes may r) h =
     (h.0, h.1, h.2, h.3, account_comes proper.0 late may h.4, accounts_releases from h.2 proper.1 late r h.5)
 
 -- A busy row is served one slot.
-pub accounts_serve : (from clock : ℕ) (said : Bool) (row : List TaskRecord) (ss : List Standing) (total : ℕ) → All Proper row → Busy ss →
+pub accounts_serve : (from clock : ℕ) (said : Bool) (row : List TaskRecord) (ss : List Standing) (total : ℕ) → AllByRecursion Proper row → Busy ss →
     Accounts from clock row ss total → Accounts from clock row (serve said row ss) (total + 1)
 accounts_serve from clock said row [] total proper busy h = elim busy [ ]
 accounts_serve from clock said [] (s ∷ ss) total proper busy h = elim h [ ]
@@ -64,7 +64,7 @@ pub record Window (row : List TaskRecord) (asked : TaskRecord) (clock : ℕ) (rs
   pub full : from + (total + served) ≡ clock
 
 -- Where nothing waits a window starts.
-starts_here : {row : List TaskRecord} {asked : TaskRecord} (clock : ℕ) (rs : List Standing) (a : Standing) → All Proper row → Proper asked →
+starts_here : {row : List TaskRecord} {asked : TaskRecord} (clock : ℕ) (rs : List Standing) (a : Standing) → AllByRecursion Proper row → Proper asked →
     length rs ≡ length row → Idle rs → a.waiting ≡ [] → Window row asked clock rs a
 starts_here {row} {asked} clock rs a proper one h idle e =
     record {
@@ -77,7 +77,7 @@ starts_here {row} {asked} clock rs a proper one h idle e =
       full = omega arith;
     }
 
-pub window : {row : List TaskRecord} {asked : TaskRecord} {clock : ℕ} {rs : List Standing} {a : Standing} → All Proper row → Proper asked →
+pub window : {row : List TaskRecord} {asked : TaskRecord} {clock : ℕ} {rs : List Standing} {a : Standing} → AllByRecursion Proper row → Proper asked →
     Beside row asked clock rs a → Window row asked clock rs a
 window {clock = clock} {rs = rs} {a = a} proper one (begins h idle e) = starts_here clock rs a proper one h idle e
 window {row} proper one (row_slot {clock = clock} {rs' = rs'} b r release busy said) =

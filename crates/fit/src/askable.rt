@@ -1,7 +1,7 @@
 // What every test looks at first: the length of the row, and the bounds of each task.
 ghost use Rattle.fit.specs.Tests.{Askable};
 ghost use Rattle.std.specs.Prelude.{Decides};
-ghost use Rattle.std.specs.List.{AllByRecursion as All};
+ghost use Rattle.std.specs.List.{AllByRecursion};
 ghost use Rattle.tasks.specs.Task.{Bounded, widest_grid};
 
 use tasks::record::TaskRecord;
@@ -12,7 +12,7 @@ pub(crate) const LONGEST_ROW: usize = 31;
 
 // Whether every task of a row keeps its bounds.
 fn all_bounded(row: &[TaskRecord]) -> bool
-    ensures { Decides result (All (Bounded widest_grid) row.now) }
+    ensures { Decides result (AllByRecursion (Bounded widest_grid) row.now) }
 {
     for t in row {
         if !t.bounded(WIDEST_GRID) {

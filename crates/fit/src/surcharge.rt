@@ -2,7 +2,7 @@
 ghost use Rattle.std.specs.Prelude.{◌≡◌, ℕ, ◌+◌, ◌≤◌, [], ◌∷◌, ◌++◌, map, length, take, Decides};
 ghost use Rattle.std.proofs.Common.{subst};
 ghost use Rattle.fit.specs.Tests.{CostRange, Held, Room, SurchargeYes, raised};
-ghost use Rattle.std.specs.List.{AllByRecursion as All};
+ghost use Rattle.std.specs.List.{AllByRecursion};
 ghost use Rattle.tasks.specs.Task.{Bounded, widest_grid};
 ghost use Rattle.tasks.specs.declared.fault.Setting.TheVariants.{SwitchCost};
 ghost use Rattle.tasks.specs.declared.record.TaskRecord.{TaskRecord};
@@ -69,8 +69,8 @@ fn has_room(cost: u32, t: TaskRecord) -> bool
 // Whether every task of a row has room for its raised work.
 fn all_have_room(cost: u32, row: &[TaskRecord]) -> bool
     requires in_range { CostRange cost }
-    requires bounded { All (Bounded widest_grid) row.now }
-    ensures { Decides result (All (Room cost) row.now) }
+    requires bounded { AllByRecursion (Bounded widest_grid) row.now }
+    ensures { Decides result (AllByRecursion (Room cost) row.now) }
 {
     for t in row {
         if !has_room(cost, *t) {
@@ -97,7 +97,7 @@ fn raised_task(cost: u32, t: TaskRecord) -> TaskRecord
 fn raised_row(cost: u32, row: &[TaskRecord]) -> [TaskRecord; LONGEST_ROW]
     requires in_range { CostRange cost }
     requires short { length row.now ≤ 31 }
-    requires bounded { All (Bounded widest_grid) row.now }
+    requires bounded { AllByRecursion (Bounded widest_grid) row.now }
     ensures len { length result ≡ 31 }
     ensures front { take (length row.now) result ≡ map (raised cost) row.now }
 {

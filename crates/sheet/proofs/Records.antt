@@ -1,6 +1,6 @@
 -- What stands at the front of the unread bytes, from the bytes that were read there.
 use Rattle.std.proofs.Common.{◌≡◌, ℕ, ◌+◌, ◌-◌, ◌<◌, ◌≤◌, ◌⊎◌, List, ◌∷◌, ◌++◌, length, get_or, take, drop, Some, None, sym, ap, ◌∙◌, subst, inl, inr, arith}
-use Rattle.std.specs.List.{between, AllByRecursion as All}
+use Rattle.std.specs.List.{between, AllByRecursion}
 use Rattle.std.proofs.lemmas.List.Edits.{length-between}
 use Rattle.std.proofs.lemmas.List.{drop_more, drop-drop, length-drop, take-append-drop}
 use Rattle.sheet.specs.Refusals.{BadLength, BadNameByte, name_bytes}
@@ -46,10 +46,10 @@ module _ (bytes : List ℕ) (at : ℕ) (inside : at < length bytes) where
       pub name-long : length e.name ≡ n - 12
       name-long = ap length name ∙ length-between bytes (at + 13) (at + 1 + n) (omega arith) ∙ (omega arith)
 
-      pub name_prints : FirstUnprintable (between (at + 1 + 12) (at + 1 + n) bytes) None → All Printable e.name
+      pub name_prints : FirstUnprintable (between (at + 1 + 12) (at + 1 + n) bytes) None → AllByRecursion Printable e.name
       name_prints fine =
           let from : at + 1 + 12 ≡ at + 13 = omega arith in
-          subst (All Printable) (ap (λ k. between k (at + 1 + n) bytes) from ∙ sym name) fine
+          subst (AllByRecursion Printable) (ap (λ k. between k (at + 1 + n) bytes) from ∙ sym name) fine
 
       -- a whole record, and what follows it
       pub entry_there :

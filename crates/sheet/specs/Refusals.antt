@@ -1,6 +1,6 @@
 -- When bytes are no sheet: each fault as a statement about the bytes. Offsets count from byte 0.
 use Rattle.std.specs.Prelude.{◌≡◌, ℕ, ◌+◌, ◌*◌, ◌<◌, ◌≢◌, ◌⊎◌, List, [], ◌∷◌, length, take, slice_index, slice_range}
-use Rattle.std.specs.List.{AllByRecursion as All}
+use Rattle.std.specs.List.{AllByRecursion}
 use Rattle.sheet.specs.Spelling.{Printable}
 use Rattle.sheet.specs.declared.fault.SheetFault.{SheetFault}
 use Rattle.sheet.specs.declared.fault.SheetFault.TheVariants.{Short, Version, Trailing, ShortBody, RecordLength, NameByte, NoTask}
@@ -39,7 +39,7 @@ name_bytes (count ∷ more) = slice_range more 12 count
 pub record BadNameByte (records : List ℕ) (i : ℕ) : Type 0 where
   pub whole : BadLength records → ⊥
   pub inside : i < length (name_bytes records)
-  pub fine_before : All Printable (take i (name_bytes records))
+  pub fine_before : AllByRecursion Printable (take i (name_bytes records))
   pub bad : Printable (slice_index (name_bytes records) i) → ⊥
 
 -- Bytes that stand at the offset `at` and begin with no record.

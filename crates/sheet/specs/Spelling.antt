@@ -1,6 +1,6 @@
 -- What a sheet spells. A byte is a number below 256; all numbers stand with the most significant byte first.
 use Rattle.std.specs.Prelude.{◌≡◌, ℕ, ◌+◌, ◌/◌, ◌%◌, ◌^◌, ◌<◌, ◌≤◌, List, [], ◌∷◌, ◌++◌, length}
-use Rattle.std.specs.List.{flat_map, AllByRecursion as All}
+use Rattle.std.specs.List.{flat_map, AllByRecursion}
 
 abbrev pub two_bytes : ℕ → List ℕ
 two_bytes n = n / 256 ∷ n % 256 ∷ []
@@ -30,7 +30,7 @@ pub record Spellable (e : Entry) : Type 0 where
   pub limit_fits : e.limit < 2 ^ 32
   pub gap_fits : e.gap < 2 ^ 32
   pub name_fits : length e.name ≤ 20
-  pub name_prints : All Printable e.name
+  pub name_prints : AllByRecursion Printable e.name
 
 -- The records one after the other.
 abbrev pub records_bytes : List Entry → List ℕ

@@ -1,15 +1,15 @@
 -- What the steps of reading one record give.
 use Rattle.std.specs.Prelude.{◌≡◌, ℕ, ◌+◌, ◌<◌, List, ◌++◌, length, take, drop, Some, None, Option, slice_index}
-use Rattle.std.specs.List.{between, AllByRecursion as All}
+use Rattle.std.specs.List.{between, AllByRecursion}
 use Rattle.sheet.specs.Reading.{NameAt, name_said}
 use Rattle.sheet.specs.Spelling.{Printable, four_bytes}
 use Rattle.sheet.specs.declared.part.SheetRecord.{SheetRecord}
 
 -- The first byte that is not printable, or none.
 abbrev pub FirstUnprintable : List ℕ → Option ℕ → Type 0
-FirstUnprintable name None = All Printable name
+FirstUnprintable name None = AllByRecursion Printable name
 FirstUnprintable name (Some i) =
-    (i < length name) × All Printable (take i name) × (Printable (slice_index name i) → ⊥)
+    (i < length name) × AllByRecursion Printable (take i name) × (Printable (slice_index name i) → ⊥)
 
 -- The record whose length byte stands at `at` and whose last byte stands before `end`.
 pub record RecordAt (bytes : List ℕ) (at end : ℕ) (r : SheetRecord) : Type 0 where

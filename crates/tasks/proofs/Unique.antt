@@ -3,7 +3,7 @@ use Rattle.std.proofs.Common.{◌≡◌, ℕ, ◌<◌, ◌≤◌, ◌⊎◌, Lis
 use Rattle.sheet.proofs.Unique.{end_faultless, entry_faultless, entry_once, record_fault_once}
 use Rattle.sheet.specs.Spelling.{Entry, Spellable, entry_bytes, records_bytes}
 use Rattle.std.proofs.lemmas.List.{length-map}
-use Rattle.std.specs.List.{AllByRecursion as All}
+use Rattle.std.specs.List.{AllByRecursion}
 use Rattle.tasks.specs.Reading.{NoNextTask, numbers_said, tasks_said}
 use Rattle.tasks.specs.Task.{Bounded, Lawful, OnGrid}
 use Rattle.tasks.specs.declared.fault.ListFault.{ListFault}
@@ -45,7 +45,7 @@ module _ (grid : ℕ) where
   agree_more e e' es es' rest rest' same (inr (inr on)) = inr (inr (goes_on-more e' e es' es rest' on))
 
   -- Entries that begin the same records agree as far as both go.
-  pub agree : (es es' : List Entry) (rest rest' : List ℕ) → All Spellable es → All LawfulEntry es → All Spellable es' → All LawfulEntry es'
+  pub agree : (es es' : List Entry) (rest rest' : List ℕ) → AllByRecursion Spellable es → AllByRecursion LawfulEntry es → AllByRecursion Spellable es' → AllByRecursion LawfulEntry es'
       → records_bytes es ++ rest ≡ records_bytes es' ++ rest' → Agree es es' rest rest'
   agree [] [] rest rest' s l s' l' same = inl (refl, same)
   agree [] (e' ∷ es') rest rest' s l s' l' same =

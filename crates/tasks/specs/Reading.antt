@@ -6,7 +6,7 @@ use Rattle.sheet.specs.Spelling.{Entry, Frame, Spellable, entry_bytes, records_b
 use Rattle.sheet.specs.declared.fault.SheetFault.{SheetFault}
 use Rattle.sheet.specs.declared.fault.SheetFault.TheVariants.{NoTask}
 use Rattle.sheet.specs.declared.part.Part.{Part}
-use Rattle.std.specs.List.{AllByRecursion as All}
+use Rattle.std.specs.List.{AllByRecursion}
 use Rattle.tasks.specs.Filling.{CannotJoin, NoList, tasks_of}
 use Rattle.tasks.specs.Task.{GridRange, LaneRange, Lawful}
 use Rattle.tasks.specs.declared.fault.ListFault.{ListFault}
@@ -29,8 +29,8 @@ pub record Begins (bytes : List ℕ) (grid lanes : ℕ) (entries : List Entry) (
   pub grid_range : GridRange grid
   pub lane_range : LaneRange lanes
   pub few : length entries ≤ 32
-  pub spellable : All Spellable entries
-  pub lawful : All (λ e. Lawful grid (numbers_said e)) entries
+  pub spellable : AllByRecursion Spellable entries
+  pub lawful : AllByRecursion (λ e. Lawful grid (numbers_said e)) entries
 
 -- The bytes spell a lawful list: this grid, this lane count, these entries, and nothing more.
 abbrev pub Spells : List ℕ → ℕ → ℕ → List Entry → Type 0

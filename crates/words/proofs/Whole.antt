@@ -3,13 +3,13 @@ use Rattle.std.proofs.Common.{◌≡◌, ℕ, ◌≢◌, ◌⊎◌, List, [], �
 use mathlib.Core.Logic.◌⊎◌.{inl, inr}
 use Rattle.std.proofs.lemmas.List.{length-append}
 use Rattle.std.proofs.lemmas.Bool.{cases_eq}
-use Rattle.std.specs.List.{AllByRecursion as All}
+use Rattle.std.specs.List.{AllByRecursion}
 use Rattle.words.proofs.Feeds.{first_is_other}
 use Rattle.words.specs.Spelling.{NoFeed, TextIsItsLines, begun_with, lines_of, text_of}
 
 -- What is said of a text and its lines.
 abbrev Whole : List ℕ → List (List ℕ) → Type 0
-Whole text lines = All NoFeed lines × ((text_of lines ≡ text) ⊎ (text_of lines ≡ text ++ 10 ∷ []))
+Whole text lines = AllByRecursion NoFeed lines × ((text_of lines ≡ text) ⊎ (text_of lines ≡ text ++ 10 ∷ []))
 
 -- An empty line more in front.
 fed : (text : List ℕ) (lines : List (List ℕ)) → Whole text lines → Whole (10 ∷ text) ([] ∷ lines)

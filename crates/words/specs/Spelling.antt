@@ -3,7 +3,7 @@ use Rattle.std.specs.Prelude.{◌≡◌, ℕ, ◌+◌, ◌*◌, ◌<◌, ◌≤�
 use Rattle.std.specs.Global.{Vec}
 use Rattle.std.specs.Str.Parse.{AllDigits, digits_value}
 use Rattle.std.specs.Char.{digit_value}
-use Rattle.std.specs.List.{AllByRecursion as All}
+use Rattle.std.specs.List.{AllByRecursion}
 
 -- A byte at the front of the first line.
 abbrev pub begun_with : ℕ → List (List ℕ) → List (List ℕ)
@@ -22,13 +22,13 @@ text_of (line ∷ lines) = line ++ 10 ∷ text_of lines
 
 -- No byte of a line is a line feed.
 abbrev pub NoFeed : List ℕ → Type 0
-NoFeed line = All (λ byte. byte ≢ 10) line
+NoFeed line = AllByRecursion (λ byte. byte ≢ 10) line
 
 -- Above that definition: whatever the text, no line of it has a line feed, and the lines with their line feeds are the text again,
 -- or the text with the last line feed that it lacks.
 abbrev pub TextIsItsLines : Type 0
 TextIsItsLines =
-    (text : List ℕ) → All NoFeed (lines_of text) × ((text_of (lines_of text) ≡ text) ⊎ (text_of (lines_of text) ≡ text ++ 10 ∷ []))
+    (text : List ℕ) → AllByRecursion NoFeed (lines_of text) × ((text_of (lines_of text) ≡ text) ⊎ (text_of (lines_of text) ≡ text ++ 10 ∷ []))
 
 -- The first line has so many bytes.
 pub record EndOfLine (bytes : List ℕ) (end : ℕ) : Type 0 where

@@ -2,7 +2,7 @@
 use Rattle.std.proofs.Common.{take}
 use Rattle.fit.proofs.surcharge.all_have_room.Given as goal
 use Rattle.fit.specs.Tests.{Room}
-use Rattle.std.specs.List.{AllByRecursion as All}
+use Rattle.std.specs.List.{AllByRecursion}
 
 abbrev pub invariant-loop-t : goal.invariant-loop-t
-invariant-loop-t l = All (Room l.cost) (take l.t-index l.row)
+invariant-loop-t l = AllByRecursion (Room l.cost) (take l.t-index l.row)
