@@ -1,5 +1,5 @@
 -- A loop that stops at the first element without a property decides whether all elements have it.
-use Rattle.std.proofs.Common.{◌≡◌, ℕ, ◌+◌, ◌<◌, ◌≤◌, Bool, true, false, List, [], ◌∷◌, length, get_or, take, Decides, sym, refl, ◌∙◌, subst}
+use Rattle.std.proofs.Common.{◌≡◌, ℕ, ◌+◌, ◌<◌, ◌≤◌, Bool, true, false, List, length, get_or, take, Decides, sym, refl, ◌∙◌, subst}
 use Rattle.std.proofs.ByRecursion.{All-get_or, All-more}
 use Rattle.std.proofs.lemmas.List.{take_all}
 use Rattle.std.proofs.lemmas.Bool.{false≢true}
@@ -14,8 +14,3 @@ module _ {X : Type 0} (P : X → Type 0) (xs : List X) (i : ℕ) where
 
   pub scan_ends : length xs ≤ i → AllByRecursion P (take i xs) → Decides true (AllByRecursion P xs)
   scan_ends past before = (λ _. subst (AllByRecursion P) (take_all i xs past) before, λ _. refl)
-
--- What follows from two properties holds of all elements that have both.
-pub all_both : {X : Type 0} (P Q R : X → Type 0) → ((x : X) → P x → Q x → R x) → (xs : List X) → AllByRecursion P xs → AllByRecursion Q xs → AllByRecursion R xs
-all_both P Q R f [] p q = tt
-all_both P Q R f (x ∷ xs) p q = (f x p.0 q.0, all_both P Q R f xs p.1 q.1)

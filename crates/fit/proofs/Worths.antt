@@ -1,9 +1,8 @@
 -- Fractions that are worth whole numbers of G-ths add up and compare as those numbers do, so linear is the standard.
-use Rattle.std.proofs.Common.{◌≡◌, ℕ, ◌+◌, ◌*◌, ◌≤◌, List, [], ◌∷◌, ℤ, pos, ◌+ℤ◌, ◌-ℤ◌, ◌*ℤ◌, neg_ℤ, ◌≤ℤ◌, sum_by, sym, refl, ap, ◌∙◌, subst, mul-le-mul_right, mul_assoc, mul_comm, add-mul, mul-pos, mul-zero, zero-mul, mul-one, mul_right_comm, le_of_mul-le-mul_right, arith}
+use Rattle.std.proofs.Common.{◌≡◌, ℕ, ◌+◌, ◌-◌, ◌*◌, ◌≤◌, List, [], ◌∷◌, ℤ, pos, ◌+ℤ◌, ◌-ℤ◌, ◌*ℤ◌, neg_ℤ, ◌≤ℤ◌, sum_by, sym, refl, ap, ◌∙◌, subst, mul-le-mul_right, mul_assoc, mul_comm, add-mul, mul-pos, mul-zero, zero-mul, mul-one, mul_right_comm, le_of_mul-le-mul_right, arith}
 use mathlib.Core.Path.{subst₃}
 use borrow.Author.Differences.{at_most_in, down, le_out, neg_is, product_is, sum_is_lem, up}
 use Rattle.fit.specs.Laws.{share_exact}
-use Rattle.fit.proofs.Scans.{all_both}
 use Rattle.fit.specs.Fractions.{Fraction, LinearIsTheStandard, RBF*, utilization, whole, Σᶠ, ◌*ᶠ◌, ◌+ᶠ◌, ◌-ᶠ◌, ◌≥ᶠ◌}
 use Rattle.fit.specs.Tests.{line, share}
 use Rattle.std.proofs.lemmas.List.Sums.{sum_by-cons}
@@ -146,6 +145,11 @@ module _ (G : ℕ) where
               (minus_in (v.n * s.denominator) (u.n * x.denominator) y.denominator (w.n * (x.denominator * s.denominator))
               (cross_in G v.n x.denominator j u.n s.denominator k w.n y.denominator l v.worth u.worth w.worth some h));
         }
+
+-- What holds of each task of a row where two things do.
+all_both : (P Q R : TaskRecord → Type 0) → ((t : TaskRecord) → P t → Q t → R t) → (row : List TaskRecord) → AllByRecursion P row → AllByRecursion Q row → AllByRecursion R row
+all_both P Q R f [] p q = tt
+all_both P Q R f (t ∷ row) p q = (f t p.0 q.0, all_both P Q R f row p.1 q.1)
 
 pub linear_is_the_standard : LinearIsTheStandard
 linear_is_the_standard grid row asked range lawful = (

@@ -1,6 +1,5 @@
 pub mod Fractions
 pub mod Lane
-pub mod Steps
 pub mod Tests
 pub mod Theorems
 pub mod Laws

@@ -1,14 +1,14 @@
 // The linear test: the request bounds of the row as straight lines (Fisher, Baruah and Baker, ECRTS 2006).
-ghost use Rattle.std.specs.Prelude.{◌≡◌, ◌+◌, ◌*◌, ◌^◌, ◌≤◌, length, Decides, MatchOption};
+ghost use Rattle.std.specs.Prelude.{◌≡◌, ◌+◌, ◌*◌, ◌^◌, ◌≤◌, length, Decides, sum_by};
 ghost use Rattle.fit.specs.Fractions.{LawfulQuestion, Standard};
-ghost use Rattle.fit.specs.Steps.{RowOnGrid, Summed};
-ghost use Rattle.fit.specs.Tests.{Held, LinearYes, line, share};
+ghost use Rattle.fit.specs.Tests.{Askable, Held, LinearYes, line, share};
+ghost use Rattle.std.specs.List.{AllByRecursion};
 ghost use Rattle.tasks.specs.Task.{Bounded, GridRange, OnGrid, widest_grid};
 ghost use Rattle.tasks.specs.declared.fault.Setting.TheVariants.{Grid};
 ghost use Rattle.tasks.specs.declared.record.TaskRecord.{TaskRecord};
 ghost use Rattle.fit.specs.Laws.{linear_safe};
 
-use crate::askable::LONGEST_ROW;
+use crate::askable::askable;
 use crate::question::FitTest;
 use tasks::fault::{ListFault, Setting};
 use tasks::record::TaskRecord;
@@ -50,6 +50,19 @@ fn on_grid(grid: u32, t: TaskRecord) -> bool
     grid % t.gap == 0
 }
 
+// Whether every gap of a row divides the grid.
+fn all_on_grid(grid: u32, row: &[TaskRecord]) -> bool
+    requires { AllByRecursion (Bounded widest_grid) row.now }
+    ensures { Decides result (AllByRecursion (OnGrid grid) row.now) }
+{
+    for t in row {
+        if !on_grid(grid, *t) {
+            return false;
+        }
+    }
+    true
+}
+
 // A task's share of the lane, in parts of the grid: at most the whole.
 fn share_of(grid: u32, t: TaskRecord) -> u64
     requires in_range { GridRange grid }
@@ -58,6 +71,21 @@ fn share_of(grid: u32, t: TaskRecord) -> u64
     ensures bound { result ≤ widest_grid }
 {
     t.work as u64 * (grid / t.gap) as u64
+}
+
+// The shares of a row together.
+fn shares_of(grid: u32, row: &[TaskRecord]) -> u64
+    requires in_range { GridRange grid }
+    requires short { length row.now ≤ 31 }
+    requires bounded { AllByRecursion (Bounded widest_grid) row.now }
+    ensures value { result ≡ sum_by (share grid) row.now }
+    ensures bound { result ≤ 31 * widest_grid }
+{
+    let mut sum = 0;
+    for t in row {
+        sum += share_of(grid, *t);
+    }
+    sum
 }
 
 // The bound on the work that a task asks for within a time, in parts of the grid.
@@ -71,55 +99,40 @@ fn line_of(grid: u32, time: u32, t: TaskRecord) -> u64
     grid as u64 * t.work as u64 + share_of(grid, t) * time as u64
 }
 
-// What a row asks for in parts of the grid: the bounds on its work within a time, and its shares.
-#[derive(Clone, Copy)]
-pub(crate) struct Sums {
-    lines: u64,
-    shares: u64,
-}
-
-// The sums of a row; none if a task of it breaks its bounds or its gap does not divide the grid.
-fn sums_of(grid: u32, time: u32, row: &[TaskRecord]) -> Option<Sums>
+// The bounds of a row together.
+fn lines_of(grid: u32, time: u32, row: &[TaskRecord]) -> u64
     requires in_range { GridRange grid }
     requires in_time { time ≤ 2 ^ 20 }
     requires short { length row.now ≤ 31 }
-    ensures { MatchOption result (RowOnGrid grid row.now → ⊥) (Summed grid time row.now) }
+    requires bounded { AllByRecursion (Bounded widest_grid) row.now }
+    ensures value { result ≡ sum_by (line grid time) row.now }
+    ensures bound { result ≤ 31 * 2 ^ 45 }
 {
-    let mut lines = 0;
-    let mut shares = 0;
+    let mut sum = 0;
     for t in row {
-        if !t.bounded(WIDEST_GRID) {
-            return None;
-        }
-        if !on_grid(grid, *t) {
-            return None;
-        }
-        lines += line_of(grid, time, *t);
-        shares += share_of(grid, *t);
+        sum += line_of(grid, time, *t);
     }
-    Some(Sums { lines, shares })
+    sum
 }
 
 // Whether the asked task's work fits its limit beside the row (inequality 5).
-fn in_time(grid: u32, lines: u64, asked: TaskRecord) -> bool
+fn in_time(grid: u32, row: &[TaskRecord], asked: TaskRecord) -> bool
     requires in_range { GridRange grid }
-    requires asked { Bounded widest_grid asked }
-    requires bound { lines ≤ 31 * 2 ^ 45 }
-    ensures { Decides result (grid * asked.work + lines ≤ grid * asked.limit) }
+    requires askable { Askable row.now asked }
+    ensures { Decides result (grid * asked.work + sum_by (line grid asked.limit) row.now ≤ grid * asked.limit) }
 {
     let work = grid as u64 * asked.work as u64;
     let room = grid as u64 * asked.limit as u64;
-    work + lines <= room
+    work + lines_of(grid, asked.limit, row) <= room
 }
 
 // Whether the shares fit the lane (inequality 6).
-fn shares_fit(grid: u32, shares: u64, asked: TaskRecord) -> bool
+fn shares_fit(grid: u32, row: &[TaskRecord], asked: TaskRecord) -> bool
     requires in_range { GridRange grid }
-    requires asked { Bounded widest_grid asked }
-    requires bound { shares ≤ 31 * widest_grid }
-    ensures { Decides result (share grid asked + shares ≤ grid) }
+    requires askable { Askable row.now asked }
+    ensures { Decides result (share grid asked + sum_by (share grid) row.now ≤ grid) }
 {
-    share_of(grid, asked) + shares <= grid as u64
+    share_of(grid, asked) + shares_of(grid, row) <= grid as u64
 }
 
 // Whether the test over this grid says yes.
@@ -127,16 +140,11 @@ fn says_yes(grid: u32, row: &[TaskRecord], asked: TaskRecord) -> bool
     requires { GridRange grid }
     ensures { Decides result (LinearYes grid row.now asked) }
 {
-    if row.len() > LONGEST_ROW || !asked.bounded(WIDEST_GRID) {
-        return false;
-    }
-    if !on_grid(grid, asked) {
-        return false;
-    }
-    match sums_of(grid, asked.limit, row) {
-        Some(sums) => in_time(grid, sums.lines, asked) && shares_fit(grid, sums.shares, asked),
-        None => false,
-    }
+    askable(row, asked)
+        && on_grid(grid, asked)
+        && all_on_grid(grid, row)
+        && in_time(grid, row, asked)
+        && shares_fit(grid, row, asked)
 }
 
 impl FitTest for Linear {

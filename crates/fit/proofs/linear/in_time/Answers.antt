@@ -6,5 +6,5 @@ use Rattle.std.proofs.lemmas.Nat.{mul-le}
 pub overflow_add-result : goal.overflow_add-result
 overflow_add-result c =
     record {
-      fits = omega (arith, mul-le c.args.grid c.args.asked.work (2 ^ 24) (2 ^ 20) c.requires.in_range.1 (omega arith), c.requires.bound);
+      fits = omega (arith, mul-le c.args.grid c.args.asked.work (2 ^ 24) (2 ^ 20) c.requires.in_range.1 (omega arith), c.lines_of.ensures.bound);
     }
