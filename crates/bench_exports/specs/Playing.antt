@@ -21,30 +21,30 @@ call_said line =
     cond (line.call == 0) (Post line.argument) (cond (line.call == 1) Begin (cond (line.call == 2) (End (line.argument % 256)) (cond (line.call == 3) (Serving line.argument) (cond (line.call == 4) (Waiting line.argument) Clock))))
 
 -- 0 for an answer, 1 for none, and else the number of the refusal.
-abbrev pub code_of : Answer → ℕ
-code_of (answer.Posted clock) = 0
-code_of (answer.Begun byte) = 0
-code_of (answer.Ended byte) = 0
-code_of (answer.Serving (Some task)) = 0
-code_of (answer.Serving None) = 1
-code_of (answer.Waiting jobs) = 0
-code_of (answer.Clock clock) = 0
-code_of (answer.Refused fault) = board.number fault
+abbrev pub answer_code : Answer → ℕ
+answer_code (answer.Posted clock) = 0
+answer_code (answer.Begun byte) = 0
+answer_code (answer.Ended byte) = 0
+answer_code (answer.Serving (Some task)) = 0
+answer_code (answer.Serving None) = 1
+answer_code (answer.Waiting jobs) = 0
+answer_code (answer.Clock clock) = 0
+answer_code (answer.Refused fault) = board.number fault
 
 -- The answer as a number, or the place of the refusal.
-abbrev pub value_of : Answer → ℕ
-value_of (answer.Posted clock) = clock
-value_of (answer.Begun byte) = byte
-value_of (answer.Ended byte) = byte
-value_of (answer.Serving (Some task)) = task
-value_of (answer.Serving None) = 0
-value_of (answer.Waiting jobs) = jobs
-value_of (answer.Clock clock) = clock
-value_of (answer.Refused fault) = board.place fault
+abbrev pub answer_value : Answer → ℕ
+answer_value (answer.Posted clock) = clock
+answer_value (answer.Begun byte) = byte
+answer_value (answer.Ended byte) = byte
+answer_value (answer.Serving (Some task)) = task
+answer_value (answer.Serving None) = 0
+answer_value (answer.Waiting jobs) = jobs
+answer_value (answer.Clock clock) = clock
+answer_value (answer.Refused fault) = board.place fault
 
 -- The line with its answer.
 abbrev pub told : Line → Answer → Line
-told line given = record { call = line.call; argument = line.argument; code = code_of given; value = value_of given }
+told line given = record { call = line.call; argument = line.argument; code = answer_code given; value = answer_value given }
 
 -- The lines with the answers that the plain board gives to their calls in turn.
 abbrev pub played : PlainBoard → List Line → List Line

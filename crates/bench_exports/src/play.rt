@@ -1,6 +1,6 @@
 // A day on the board, call by call, which only the benchmark plays.
 ghost use Rattle.std.specs.Prelude.{◌≡◌};
-ghost use Rattle.bench_exports.specs.Playing.{Played, call_said, code_of, played, value_of};
+ghost use Rattle.bench_exports.specs.Playing.{Played, answer_code, answer_value, call_said, played};
 ghost use Rattle.board.specs.View.{view};
 
 use crate::either_over;
@@ -38,7 +38,7 @@ impl Line {
 
 // 0 for an answer, 1 for none, and else the number of the refusal.
 fn code_of(answer: Answer) -> u32
-    ensures { result ≡ code_of answer }
+    ensures { result ≡ answer_code answer }
 {
     match answer {
         Answer::Serving(None) => 1,
@@ -49,7 +49,7 @@ fn code_of(answer: Answer) -> u32
 
 // The answer as a number, or the place of the refusal.
 fn value_of(answer: Answer) -> u64
-    ensures { result ≡ value_of answer }
+    ensures { result ≡ answer_value answer }
 {
     match answer {
         Answer::Posted(clock) => clock,

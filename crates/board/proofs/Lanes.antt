@@ -1,9 +1,9 @@
 -- The tasks of a lane by their numbers: which is served, what one slot leaves, and what a change of one task changes.
-use Rattle.std.proofs.Common.{◌≡◌, ℕ, zero, suc, ◌<◌, Bool, true, false, cond, ◌&&◌, eqb, ◌≢◌, ◌⊎◌, List, [], ◌∷◌, map, length, get_or, set, is_some, Some, None, filter, Option, sym, refl, ap, ◌∙◌, subst, inl, inr, ⊎_elim, arith}
+use Rattle.std.proofs.Common.{◌≡◌, ℕ, zero, suc, ◌+◌, ◌<◌, Bool, true, false, cond, ◌&&◌, eqb, ◌≢◌, ◌⊎◌, List, [], ◌∷◌, map, length, get_or, drop, set, is_some, Some, None, filter, Option, sym, refl, ap, ◌∙◌, subst, inl, inr, ⊎_elim, arith}
 use Rattle.std.specs.List.{AllByRecursion}
 use Rattle.std.proofs.ByRecursion.{All-from_get_or, all_kept_by}
-use Rattle.std.proofs.lemmas.List.{get_or-set_other, get_or-set_same}
-use Rattle.std.proofs.lemmas.Bool.{both_ways, cond_both, eqb-false, eqb-true}
+use Rattle.std.proofs.lemmas.List.{at_drop_more, get_or-set_other, get_or-set_same}
+use Rattle.std.proofs.lemmas.Bool.{and_from, and_left, and_right, both_ways, cond_both, cond-false, cond-true, eq-eqb, eqb-false, eqb-true, ne_eqb}
 use Rattle.fit.specs.Lane.{Job, Standing, after_service, serve, unreleased}
 use Rattle.plan.specs.Placing.{lane_of, record_of}
 use Rattle.tasks.specs.declared.record.TaskRecord.{TaskRecord}
@@ -187,3 +187,23 @@ module _ (ss : List Standing) where
     closes-first =
         read_first (λ ns o. elim o [ None ↦ false | Some place ↦ first_closes (get_or (map (record_of tasks) ns) place (record_of [] 0)) said (get_or (map (stands_at ss) ns) place unreleased).waiting ])
         (λ n ns. refl) (λ n ns place. refl) closing refl (λ n ns. refl)
+
+-- Going through the tasks in order, up to the one that is served.
+module _ (plan : List ℕ) (lane : ℕ) (ss : List Standing) (ns : List ℕ) (k : ℕ) (h : k < length ns) (number : ℕ) (is : number ≡ get_or ns k 0) where
+  abbrev rest : Option ℕ
+  rest = next_on plan lane ss (drop (k + 1) ns)
+
+  here_or_on : next_on plan lane ss (drop k ns) ≡ cond (eqb (lane_of plan number) lane && has_job (stands_at ss number)) (Some number) rest
+  here_or_on =
+      at_drop_more (next_on plan lane ss) ns k 0 h
+      ∙ ap (λ (n : ℕ). cond (eqb (lane_of plan n) lane && has_job (stands_at ss n)) (Some n) rest) (sym is)
+
+  pub found_here : lane_of plan number ≡ lane → has_job (stands_at ss number) ≡ true → next_on plan lane ss (drop k ns) ≡ Some number
+  found_here l j = here_or_on ∙ cond-true _ (Some number) rest (and_from _ _ (eq-eqb (lane_of plan number) lane l) j)
+
+  pub not-here : (lane_of plan number ≡ lane → ⊥) ⊎ (has_job (stands_at ss number) ≡ false) → next_on plan lane ss (drop k ns) ≡ rest
+  not-here other =
+      here_or_on
+      ∙ cond-false _ (Some number) rest (⊎_elim
+      (λ (n : lane_of plan number ≡ lane → ⊥). and_left (eqb (lane_of plan number) lane) _ (ne_eqb (lane_of plan number) lane n))
+      (λ (j : has_job (stands_at ss number) ≡ false). and_right (eqb (lane_of plan number) lane) _ j) other)

@@ -16,7 +16,6 @@ pub mod Places
 pub mod Preparing
 pub mod Queue
 pub mod Refusals
-pub mod Rows
 pub mod Run
 pub mod Service
 pub mod Standings

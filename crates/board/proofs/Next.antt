@@ -109,6 +109,14 @@ next_inside tasks plan lane ss =
     first_part (λ n. n < length tasks) (λ n. lane_of plan n ≡ lane) (next_on plan lane ss (order tasks))
     (next_such plan lane (λ m. m < length tasks) ss (order tasks) (each_turn_inside tasks))
 
+-- It is there, and sits on the lane.
+pub next_there :
+    (tasks : List TaskRecord) (plan : List ℕ) (lane : ℕ) (ss : List Standing) (n : ℕ) → Some n ≡ next_on plan lane ss (order tasks)
+    → (n < length tasks) × (lane_of plan n ≡ lane)
+next_there tasks plan lane ss n e =
+    subst (λ (o : Option ℕ). IfSome o (λ m. (m < length tasks) × (lane_of plan m ≡ lane))) (sym e)
+    (next_such plan lane (λ m. m < length tasks) ss (order tasks) (each_turn_inside tasks))
+
 -- No task sits past the four lanes, so that no such lane serves one.
 pub none_past : (seats : Seats) (lane : ℕ) → 4 ≤ lane → (ss : List Standing) → next_on (plan_of seats) lane ss (order (tasks_on seats)) ≡ None
 none_past seats lane past ss =
@@ -121,13 +129,6 @@ none_past seats lane past ss =
 module _ (tasks : List TaskRecord) (plan : List ℕ) (ss : List Standing) (next : List (Option ℕ)) (are : AreNext tasks plan ss next) where
   pub next-is : (lane : ℕ) → lane < 4 → get_or next lane None ≡ next_task tasks plan ss lane
   next-is lane h = is_same (get_or next lane None) (next_task tasks plan ss lane) (are lane h)
-
-  -- The task of a lane is there, and sits on the lane.
-  pub next_there :
-      (lane : ℕ) → lane < 4 → (n : ℕ) → Some n ≡ get_or next lane None → (n < length tasks) × (lane_of plan n ≡ lane)
-  next_there lane h n e =
-      subst (λ (o : Option ℕ). IfSome o (λ m. (m < length tasks) × (lane_of plan m ≡ lane))) (sym (e ∙ next-is lane h))
-      (next_such plan lane (λ m. m < length tasks) ss (order tasks) (each_turn_inside tasks))
 
   module _ (n : ℕ) (s : Standing) (ss' : List Standing) (is : ss' ≡ set ss n s) where
     -- One task has changed, and its lane has looked anew.

@@ -6,7 +6,6 @@ pub mod Preparing
 pub mod Promise
 pub mod Queues
 pub mod Releases
-pub mod Rows
 pub mod Seating
 pub mod Serving
 pub mod Steps

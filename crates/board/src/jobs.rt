@@ -1,36 +1,28 @@
 // The waiting jobs of all tasks.
-ghost use Rattle.std.specs.Prelude.{◌≡◌, ◌<◌, ◌≤◌, map, length, replicate, None, slice_index_or, slice_set};
+ghost use Rattle.std.specs.Prelude.{◌≡◌, ◌<◌, ◌≤◌, map, length, replicate, slice_set};
 ghost use Rattle.board.specs.PlainBoard.{first_closes, next_release};
 ghost use Rattle.board.specs.Queues.{JobTaken, after_slot_of, has_job, standing, stands_at};
-ghost use Rattle.board.specs.Seating.{plan_of, tasks_on};
-ghost use Rattle.board.specs.Steps.{AreNext, SlotGiven, next_task};
 ghost use Rattle.fit.specs.Lane.{unreleased};
 ghost use Rattle.std.specs.Option.{unwrap_or};
 
-use crate::seats::Seats;
 use crate::task_queue::TaskQueue;
 use tasks::record::TaskRecord;
 use tasks::table::MOST_TASKS;
 
-// The queue of each task, by the task's number, and for each lane the number of the task that it serves.
-// A lane looks for that task only where one of its tasks has got a job or has lost one.
+// The queue of each task, by the task's number.
 #[derive(Clone, Copy)]
 pub(crate) struct Jobs {
     queues: [TaskQueue; 32],
-    next: [Option<usize>; 4],
     ghost long: { length queues ≡ 32 },
-    ghost four: { length next ≡ 4 },
 }
 
 impl Jobs {
     // No job and no release.
     pub(crate) fn none() -> Jobs
-        ensures stands { map standing result.queues ≡ replicate 32 unreleased }
-        ensures idle { result.next ≡ replicate 4 None }
+        ensures { map standing result.queues ≡ replicate 32 unreleased }
     {
         Jobs {
             queues: [TaskQueue::new(); MOST_TASKS],
-            next: [None; 4],
         }
     }
 
@@ -58,60 +50,21 @@ impl Jobs {
         self.queues[number].is_waiting()
     }
 
-    // The number of the task that the lane serves.
-    pub(crate) fn served(&self, lane: usize) -> Option<usize>
-        requires { lane < 4 }
-        ensures { result ≡ slice_index_or self.now.next lane None }
-    {
-        self.next[lane]
-    }
-
-    // The first task in order on the lane with a job that waits.
-    fn first_waiting(&self, seats: &Seats, lane: usize) -> Option<usize>
-        requires { lane < 4 }
-        ensures { result ≡ next_task (tasks_on seats.now) (plan_of seats.now) (map standing self.now.queues) lane }
-    {
-        let row = seats.row(lane);
-        for number in row.iter() {
-            if self.is_waiting(*number) {
-                return Some(*number);
-            }
-        }
-        None
-    }
-
     // Takes a job of the task that is released at this clock, unless four wait.
-    pub(crate) fn post(&mut self, seats: &Seats, number: usize, clock: u64) -> bool
-        requires inside { number < length (tasks_on seats.now) }
-        requires in_time { clock ≤ 1099511627776 }
-        requires no_later { unwrap_or (stands_at (map standing self.old.queues) number).last 0 ≤ clock }
-        requires at_hand { AreNext (tasks_on seats.now) (plan_of seats.now) (map standing self.old.queues) self.old.next }
-        ensures taken { JobTaken (map standing self.old.queues) number clock result (map standing self.new.queues) }
-        ensures at_hand { AreNext (tasks_on seats.now) (plan_of seats.now) (map standing self.new.queues) self.new.next }
+    pub(crate) fn post(&mut self, number: usize, clock: u64) -> bool
+        requires { (number < 32) × ((clock ≤ 1099511627776) × (unwrap_or (stands_at (map standing self.old.queues) number).last 0 ≤ clock)) }
+        ensures { JobTaken (map standing self.old.queues) number clock result (map standing self.new.queues) }
     {
-        if !post_at(&mut self.queues, number, clock) {
-            return false;
-        }
-        let lane = seats.lane(number) as usize;
-        self.next[lane] = self.first_waiting(seats, lane);
-        true
+        post_at(&mut self.queues, number, clock)
     }
 
-    // Serves one slot to the task that the lane serves, if it serves one, and says whether its job closes.
-    pub(crate) fn serve(&mut self, seats: &Seats, lane: usize, said: bool) -> bool
-        requires lane { lane < 4 }
-        requires at_hand { AreNext (tasks_on seats.now) (plan_of seats.now) (map standing self.old.queues) self.old.next }
-        ensures served { SlotGiven (tasks_on seats.now) (plan_of seats.now) (map standing self.old.queues) lane said result (map standing self.new.queues) }
-        ensures at_hand { AreNext (tasks_on seats.now) (plan_of seats.now) (map standing self.new.queues) self.new.next }
+    // Serves one slot to the earliest waiting job of the task, and says whether it closes.
+    pub(crate) fn serve(&mut self, number: usize, task: TaskRecord, said: bool) -> bool
+        requires { number < 32 }
+        ensures closed { result ≡ first_closes task said (stands_at (map standing self.old.queues) number).waiting }
+        ensures after { map standing self.new.queues ≡ slice_set (map standing self.old.queues) number (after_slot_of task said (stands_at (map standing self.old.queues) number)) }
     {
-        let Some(number) = self.served(lane) else {
-            return false;
-        };
-        if !serve_at(&mut self.queues, number, seats.task(number), said) {
-            return false;
-        }
-        self.next[lane] = self.first_waiting(seats, lane);
-        true
+        serve_at(&mut self.queues, number, task, said)
     }
 }
 

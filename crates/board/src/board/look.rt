@@ -9,6 +9,7 @@ ghost use Rattle.plan.specs.Placing.{order};
 ghost use Rattle.std.specs.Result.{result_err};
 
 use crate::board::Board;
+use crate::board::at_hand::serve;
 use crate::fault::BoardFault;
 
 impl Board {
@@ -24,11 +25,7 @@ impl Board {
         ensures value { result ≡ next_on (plan_of self.now.seats) lane (standings_on self.now) (order (tasks_on self.now.seats)) }
         ensures bound { IfSome result (λ number. number < length (tasks_on self.now.seats)) }
     {
-        if lane < 4 {
-            self.jobs.served(lane)
-        } else {
-            None
-        }
+        if lane < 4 { self.next[lane] } else { None }
     }
 
     // Whether the lane has a job to serve.
@@ -68,7 +65,7 @@ impl Board {
         ensures { LaneServed self.old lane said result self.new }
     {
         if lane < 4 {
-            self.jobs.serve(&self.seats, lane, said)
+            serve(&self.seats, &mut self.jobs, &mut self.next, lane, said)
         } else {
             false
         }

@@ -9,6 +9,7 @@ ghost use Rattle.board.specs.declared.call.Call.TheVariants as call;
 ghost use Rattle.tasks.specs.Filling.{tasks_of};
 
 use crate::board::Board;
+use crate::board::at_hand::post;
 use crate::call::{Answer, Call};
 use crate::fault::BoardFault;
 use crate::jobs::Jobs;
@@ -28,6 +29,7 @@ impl Board {
         Board {
             seats: Seats::none(),
             jobs: Jobs::none(),
+            next: [None; 4],
             clock: 0,
             slot_open: false,
         }
@@ -73,6 +75,7 @@ impl Board {
         *self = Board {
             seats: Seats::new(list, plan),
             jobs: Jobs::none(),
+            next: [None; 4],
             clock: start,
             slot_open: false,
         };
@@ -94,7 +97,13 @@ impl Board {
         if self.clock < next {
             return Err(BoardFault::Early(next));
         }
-        if !self.jobs.post(&self.seats, task, self.clock) {
+        if !post(
+            &self.seats,
+            &mut self.jobs,
+            &mut self.next,
+            task,
+            self.clock,
+        ) {
             return Err(BoardFault::QueueFull(task));
         }
         Ok(self.clock + u64::from(numbers.limit))

@@ -1,12 +1,10 @@
 // Filling the seats, and looking at them.
-ghost use Rattle.std.specs.Prelude.{◌≡◌, ℕ, ◌<◌, ◌≤◌, [], length, take, slice_index};
-ghost use Rattle.board.specs.Rows.{numbers_among, numbers_of, row_at};
+ghost use Rattle.std.specs.Prelude.{◌≡◌, ℕ, ◌<◌, ◌≤◌, [], length, take};
 ghost use Rattle.board.specs.Seating.{plan_of, tasks_on};
-ghost use Rattle.plan.specs.Placing.{LanesAreSafe, lane_of, record_of};
+ghost use Rattle.plan.specs.Placing.{LanesAreSafe, lane_of, record_of, turn};
 ghost use Rattle.tasks.specs.Filling.{tasks_of};
 
 use crate::seats::Seats;
-use crate::seats::row::Row;
 use plan::numbering::numbers_in_order;
 use tasks::list::TaskList;
 use tasks::record::TaskRecord;
@@ -25,21 +23,6 @@ fn padded(plan: &[u8]) -> [u8; 32]
     lanes
 }
 
-// The row of each lane: those of the tasks that the plan has on it, in the same order.
-fn rows_of(turns: &[usize], plan: &[u8]) -> [Row; 4]
-    requires few { length turns.now ≤ 32 }
-    requires planned { (k : ℕ) → k < length turns.now → slice_index turns.now k < length plan.now }
-    ensures four { length result ≡ 4 }
-    ensures rows { (lane : ℕ) → lane < 4 → row_at result lane ≡ numbers_among plan.now lane turns.now }
-{
-    [
-        Row::new(turns, plan, 0),
-        Row::new(turns, plan, 1),
-        Row::new(turns, plan, 2),
-        Row::new(turns, plan, 3),
-    ]
-}
-
 impl Seats {
     // The seats of the list that every box begins with: one lane and no task.
     pub(crate) fn none() -> Seats
@@ -49,7 +32,7 @@ impl Seats {
         Seats {
             list: TaskList::new(),
             lane_of: [0; MOST_TASKS],
-            rows: [Row::empty(); 4],
+            turns: [0; MOST_TASKS],
         }
     }
 
@@ -61,12 +44,10 @@ impl Seats {
         ensures list { result.list ≡ list.now }
         ensures plan { plan_of result ≡ plan.now }
     {
-        let numbers = numbers_in_order(list);
-        let turns = &numbers[0..list.len()];
         Seats {
             list: *list,
             lane_of: padded(plan),
-            rows: rows_of(turns, plan),
+            turns: numbers_in_order(list),
         }
     }
 
@@ -100,12 +81,12 @@ impl Seats {
         self.lane_of[number]
     }
 
-    // The numbers of the lane's tasks, in their order.
-    pub(crate) fn row(&self, lane: usize) -> &[usize]
-        requires { lane < 4 }
-        ensures value { result.now ≡ numbers_of (tasks_on self.now) (plan_of self.now) lane }
-        ensures bound { (k : ℕ) → k < length result.now → slice_index result.now k < length (tasks_on self.now) }
+    // The number of the task whose turn is the k-th.
+    pub(crate) fn turn(&self, k: usize) -> usize
+        requires { k < length (tasks_on self.now) }
+        ensures value { result ≡ turn (tasks_on self.now) k }
+        ensures bound { result < length (tasks_on self.now) }
     {
-        self.rows[lane].numbers()
+        self.turns[k]
     }
 }

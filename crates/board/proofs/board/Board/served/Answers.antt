@@ -1,5 +1,5 @@
 -- The board has it at hand; past the last lane there is none.
-use Rattle.std.proofs.Common.{ℕ, ◌<◌, length, IfSome, Option, sym, ◌∙◌, subst}
+use Rattle.std.proofs.Common.{ℕ, ◌<◌, length, IfSome, Option, sym, subst}
 use Rattle.board.specs.Seating.{plan_of, tasks_on}
 use Rattle.board.specs.View.{standings_on}
 use Rattle.board.proofs.Next.{next-is, next_inside, none_past}
@@ -8,7 +8,7 @@ use Rattle.board.proofs.board.Board.served.Goals as goal
 pub returns-then-lane-lt4 : goal.returns-then-lane-lt4
 returns-then-lane-lt4 c =
     let b = c.args.self.now in
-    let is = c.served.ensures ∙ next-is (tasks_on b.seats) (plan_of b.seats) (standings_on b) b.jobs.next b.at_hand c.args.lane c.if-lane-lt4.true in
+    let is = next-is (tasks_on b.seats) (plan_of b.seats) (standings_on b) b.next b.at_hand c.args.lane c.if-lane-lt4.true in
     record {
       value = is;
       bound =
