@@ -2,9 +2,8 @@
 
 # Proves and builds the programs and runs each on its example.
 run:
-	rt check lanes replay
-	target/bin/lanes < examples/office.sheet
-	target/bin/replay < examples/day.replay
+	cd crates/lanes && rt run < ../../examples/office.sheet
+	cd crates/replay && rt run < ../../examples/day.replay
 
 # The gate.
 test:
@@ -12,7 +11,7 @@ test:
 
 # The proved calls against the plain Rust reference, as ratios (docs/BENCHMARKS.md).
 bench:
-	rt staticlib installer
-	rt staticlib bench_exports
+	cd crates/installer && rt lib
+	cd crates/bench_exports && rt lib
 	cargo build --quiet --release --offline --locked --manifest-path reference/Cargo.toml --target-dir build/cargo --bin bench
 	build/cargo/release/bench

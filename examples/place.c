@@ -1,7 +1,7 @@
 /*
  * Places the tasks of a sheet and prints the lane of each, or the number for which the sheet is refused.
  *
- *     cc -I crates/installer/include examples/place.c target/staticlib/libinstaller.a -o place
+ *     cc -I crates/installer/include examples/place.c crates/installer/out/libinstaller.a -o place
  *     ./place examples/office.sheet
  */
 #include <stdio.h>
