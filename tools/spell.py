@@ -1,6 +1,7 @@
 #!/usr/bin/env python3
 """Brings this repository's own definitions and lemmas to the spelling that today's Rattle has: words in snake case, types and facts in
-camel case, and a dash only where it joins two names. tools/spelling.txt has a line 'old new' for each.
+camel case, and a dash only where it joins two names. tools/spelling.txt has a line 'old new' for each, and tools/spelling-locals.txt for each
+parameter and local name, which is turned where no dot stands before it.
 
 usage: python3 tools/spell.py [FOLDER]    at the top of a repository whose crates/ have today's surface; run it once
        python3 tools/spell.py --pages     the names that README.md and docs/ have in backticks
@@ -15,15 +16,20 @@ import sys
 HERE = os.path.dirname(os.path.realpath(__file__))
 NAME = re.compile(r"(?<![\w'◌-])[A-Za-z][\w']*(?:-[\w']+)*(?![\w'◌-])")
 TICKS = re.compile(r"`[^`\n]*`")
+LOCALS = {}
 
 
-def table():
-    with open(os.path.join(HERE, "spelling.txt"), encoding="utf-8") as f:
+def table(name):
+    with open(os.path.join(HERE, name), encoding="utf-8") as f:
         return dict(line.split() for line in f if line.strip())
 
 
 def spelled(text, names):
-    return NAME.sub(lambda m: names.get(m[0], m[0]), text)
+    def new(m):
+        word = names.get(m[0], m[0])
+        return word if word != m[0] or text[m.start() - 1 : m.start()] == "." else LOCALS.get(m[0], m[0])
+
+    return NAME.sub(new, text)
 
 
 def ticked(text, names):
@@ -72,7 +78,8 @@ def rewrite(path, turn):
 
 
 def main(argv):
-    names = table()
+    names = table("spelling.txt")
+    LOCALS.update(table("spelling-locals.txt"))
     if argv == ["--pages"]:
         pages = ["README.md"] + ["docs/" + f for f in sorted(os.listdir("docs")) if f.endswith(".md") and not f.startswith("PORT")]
         print(sum(rewrite(p, lambda t: ticked(t, names)) for p in pages), "pages turned")

@@ -132,9 +132,9 @@ module _ (b : PlainBoard) (task : ℕ) (job : Job) (inside : task < length b.tas
       let place = task_place b posted in
       let s = standing_of b posted in
       set_ways b.lanes lane own (set (lane_standings b lane) place (with_job b.clock s)) [] (λ (ss : List Standing). ContainsAt (get_or ss (task_place b task) unreleased).waiting job) waits
-      (λ same-lane.
+      (λ same_lane.
       let here : ContainsAt (get_or (lane_standings b lane) (task_place b task) unreleased).waiting job =
-      subst (λ (k : ℕ). ContainsAt (get_or (lane_standings b k) (task_place b task) unreleased).waiting job) same-lane waits in
+      subst (λ (k : ℕ). ContainsAt (get_or (lane_standings b k) (task_place b task) unreleased).waiting job) same_lane waits in
       set_ways (lane_standings b lane) place (task_place b task) (with_job b.clock s) unreleased (λ (after : Standing). ContainsAt after.waiting job) here
       (λ same_place.
       has_append_left s.waiting (record { release = b.clock; served = 0 } ∷ []) job

@@ -13,17 +13,17 @@ use Rattle.board.proofs.OnTime.{always_on_time}
 use Rattle.board.proofs.Run.{WorksFit}
 use Rattle.board.proofs.Taken.{always_taken}
 
-module _ (yes-to : List TaskRecord → TaskRecord → Type 0) (lanes : ℕ) (tasks : List TaskRecord) where
+module _ (yes_to : List TaskRecord → TaskRecord → Type 0) (lanes : ℕ) (tasks : List TaskRecord) where
   -- A board that answered as the plain board and stands as the plain board has kept it.
   pub promise_kept :
-      KeepsTheLaw yes-to → WorksFit tasks
-      → (plan : List ℕ) (start : ℕ) → Passes yes-to lanes tasks plan
+      KeepsTheLaw yes_to → WorksFit tasks
+      → (plan : List ℕ) (start : ℕ) → Passes yes_to lanes tasks plan
       → (calls : List Call) (answers : List Answer) (left : PlainBoard)
       → answers ≡ answers_to (new_board tasks lanes plan start) calls
       → left ≡ after_calls (new_board tasks lanes plan start) calls
-      → Promise yes-to lanes tasks plan start calls answers left
+      → Promise yes_to lanes tasks plan start calls answers left
   promise_kept law works plan start passes calls answers left answered board_left =
-      let safe = lanes_are-safe yes-to lanes tasks plan law passes in
+      let safe = lanes_are-safe yes_to lanes tasks plan law passes in
       record {
         passed = passes;
         safe = safe;

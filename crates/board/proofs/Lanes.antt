@@ -70,11 +70,11 @@ module _ (ss : List Standing) where
 
   -- What is read off the place of the first that waits is read off its number.
   module _ {X : Type 0} (read : List ℕ → Option ℕ → X) (shift_none : (n : ℕ) (ns : List ℕ) → read (n ∷ ns) None ≡ read ns None)
-      (shift-some : (n : ℕ) (ns : List ℕ) (place : ℕ) → read (n ∷ ns) (Some (suc place)) ≡ read ns (Some place))
+      (shift_some : (n : ℕ) (ns : List ℕ) (place : ℕ) → read (n ∷ ns) (Some (suc place)) ≡ read ns (Some place))
       (pick : Option ℕ → X) (none : read [] None ≡ pick None) (here : (n : ℕ) (ns : List ℕ) → read (n ∷ ns) (Some 0) ≡ pick (Some n)) where
     shift : (n : ℕ) (ns : List ℕ) (o : Option ℕ) → read (n ∷ ns) (further o) ≡ read ns o
     shift n ns None = shift_none n ns
-    shift n ns (Some place) = shift-some n ns place
+    shift n ns (Some place) = shift_some n ns place
 
     pub read_first : (ns : List ℕ) → read ns (first_waiting (map (stands_at ss) ns)) ≡ pick (first-number ns)
     read_first [] = none

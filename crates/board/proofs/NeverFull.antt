@@ -105,14 +105,14 @@ module _ (lanes : ℕ) (b : PlainBoard) (run : Run lanes b) (safe : LanesAreSafe
       let inside = run.on_lanes task h in
       let lane = run.each own inside in
       let there = record_at_place b task h no_task in
-      let due-there = subst (λ (t : TaskRecord). next_release t (standing_of b task) ≤ b.clock) (sym there) due in
-      let same = not_yet lane.released place (subst (λ (t : TaskRecord). 1 ≤ t.gap) (sym there) (omega (arith, run.works task h))) due-there in
+      let due_there = subst (λ (t : TaskRecord). next_release t (standing_of b task) ≤ b.clock) (sym there) due in
+      let same = not_yet lane.released place (subst (λ (t : TaskRecord). 1 ≤ t.gap) (sym there) (omega (arith, run.works task h))) due_there in
       subst (λ (s : Standing). length s.waiting < most_waiting) same
       (room_for_a_release row place most_waiting (record { clock = b.clock; standings = lane.before }) (safe own inside place) (omega arith)
       (subst (λ (t : TaskRecord). t.limit ≤ most_waiting * t.gap) (sym there) (covered task h))
       lane.reached
       (may_release b.clock (get_or row place no_task) (get_or lane.before place unreleased)
-      (subst (λ (s : Standing). next_release (get_or row place no_task) s ≤ b.clock) (sym same) due-there)))
+      (subst (λ (s : Standing). next_release (get_or row place no_task) s ≤ b.clock) (sym same) due_there)))
 
   refusal_not_full : (call : Call) → IfAny (refusal b call)
   refusal_not_full (Post task) =

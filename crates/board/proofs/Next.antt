@@ -159,15 +159,15 @@ module _ (tasks : List TaskRecord) (plan : List ℕ) (ss : List Standing) (next 
       → (said closed : Bool) (ss' : List Standing) → closed ≡ first_closes t said (stands_at ss n).waiting
       → ss' ≡ set ss n (after_slot_of t said (stands_at ss n)) → SlotGiven tasks plan ss lane said closed ss'
   given_to lane h n e t is said closed ss' closes stands =
-      let serves-it : Some n ≡ next_task tasks plan ss lane = e ∙ next-is lane h in
+      let serves_it : Some n ≡ next_task tasks plan ss lane = e ∙ next-is lane h in
       record {
         stands =
             stands
-            ∙ (ap (λ (x : TaskRecord). set ss n (after_slot_of x said (stands_at ss n))) is ∙ ap (served_by tasks said ss) serves-it);
+            ∙ (ap (λ (x : TaskRecord). set ss n (after_slot_of x said (stands_at ss n))) is ∙ ap (served_by tasks said ss) serves_it);
         closes =
             closes
             ∙ (ap (λ (x : TaskRecord). first_closes x said (stands_at ss n).waiting) is
-            ∙ ap (λ (o : Option ℕ). elim o [ None ↦ false | Some m ↦ first_closes (record_of tasks m) said (stands_at ss m).waiting ]) serves-it);
+            ∙ ap (λ (o : Option ℕ). elim o [ None ↦ false | Some m ↦ first_closes (record_of tasks m) said (stands_at ss m).waiting ]) serves_it);
       }
 
 still_waiting :

@@ -6,7 +6,7 @@ use Rattle.std.proofs.lemmas.List.{at_drop_more, length-map, length-set, map_pus
 use Rattle.std.proofs.lemmas.List.Sums.{sum_by_push}
 use Rattle.std.proofs.lemmas.Bool.Decides.{nat_tests}
 use Rattle.queue.specs.InOrder.{NoTies, Sorted, in_order}
-use Rattle.queue.specs.Queue.{AllTaken, Empty, Taken, Was-put, Was-taken, count, held, one}
+use Rattle.queue.specs.Queue.{AllTaken, Empty, Taken, WasPut, WasTaken, count, held, one}
 use Rattle.queue.proofs.Counts.{count_by-all, count_by-cons, count_by-none, none-from-count_by}
 use Rattle.queue.proofs.Drains.{held-before, sorted_push}
 use Rattle.queue.proofs.InOrder.{count_by-in_order, each_listed, holding_empty, holding_full, length-in_order, same-order, sorted_in_order}
@@ -53,7 +53,7 @@ module _ (last : Option ℕ) (clock : ℕ) (past : unwrap_or last 0 ≤ clock) (
       All-weaker _ _ (not_later last clock past) (releases old)
       (none-from-count_by (later_than last) (releases old) (releases_counted (later_than last) old ∙ none))
 
-  module _ (x : Release) (at : x.at ≡ clock) (new : List (Option Release)) (put : Was-put old x new) where
+  module _ (x : Release) (at : x.at ≡ clock) (new : List (Option Release)) (put : WasPut old x new) where
     -- A job that is put comes last.
     pub releases_put : releases new ≡ releases old ++ x ∷ []
     releases_put =
@@ -73,7 +73,7 @@ module _ (last : Option ℕ) (clock : ℕ) (past : unwrap_or last 0 ≤ clock) (
 
 -- A job that is taken was first.
 pub releases_taken :
-    (old : List (Option Release)) (x : Release) (new : List (Option Release)) → Was-taken released_before old x new
+    (old : List (Option Release)) (x : Release) (new : List (Option Release)) → WasTaken released_before old x new
     → releases old ≡ x ∷ releases new
 releases_taken old x new t =
     same-order released_before one_way no_ties (releases old) (x ∷ releases new) (sorted old) (
@@ -188,6 +188,6 @@ few-held [] = omega arith
 few-held (None ∷ places) = omega (arith, few-held places)
 few-held (Some x ∷ places) = omega (arith, few-held places)
 
-pub put_room : (old : List (Option Release)) (x : Release) (new : List (Option Release)) → Was-put old x new → count (λ _. true) old < length old
+pub put_room : (old : List (Option Release)) (x : Release) (new : List (Option Release)) → WasPut old x new → count (λ _. true) old < length old
 put_room old x new p =
     omega (arith, p.counted (λ _. true), few-held new, ap length p.after, length-set old p.place (Some x), count_by-all (held new))

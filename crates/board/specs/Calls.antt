@@ -5,9 +5,9 @@ use Rattle.board.specs.declared.call.Answer.{Answer}
 use Rattle.board.specs.declared.call.Call.{Call}
 use Rattle.board.specs.declared.fault.BoardFault.{BoardFault}
 
--- The call was answered: accepted with the plain board's answer, in the form `as-answer` gives the result, and the board that
+-- The call was answered: accepted with the plain board's answer, in the form `as_answer` gives the result, and the board that
 -- it leaves; or refused with the fault that applies first, and nothing changed.
 abbrev pub Answered : {R : Type 0} → PlainBoard → Call → (R → Answer) → Result R BoardFault → PlainBoard → Type 0
-Answered before call as-answer (Ok result) after =
-    (refusal before call ≡ None) × (as-answer result ≡ accepted_answer before call) × (after ≡ accepted_board before call)
-Answered before call as-answer (Err fault) after = (refusal before call ≡ Some fault) × (after ≡ before)
+Answered before call as_answer (Ok result) after =
+    (refusal before call ≡ None) × (as_answer result ≡ accepted_answer before call) × (after ≡ accepted_board before call)
+Answered before call as_answer (Err fault) after = (refusal before call ≡ Some fault) × (after ≡ before)

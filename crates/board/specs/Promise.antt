@@ -94,12 +94,12 @@ AlwaysTold b calls = (k finished : ℕ) → k ≤ length calls → ClosingsAreTo
 abbrev pub NeverFull : List Answer → Type 0
 NeverFull answers = (task : ℕ) → ContainsAt answers (Refused (QueueFull task)) → ⊥
 
--- Below, `yes-to` is the fit test's set of questions with a yes, and the list has these tasks on so many lanes.
-module _ (yes-to : List TaskRecord → TaskRecord → Type 0) (lanes : ℕ) (tasks : List TaskRecord) where
+-- Below, `yes_to` is the fit test's set of questions with a yes, and the list has these tasks on so many lanes.
+module _ (yes_to : List TaskRecord → TaskRecord → Type 0) (lanes : ℕ) (tasks : List TaskRecord) where
   -- Why no board is set up from the plan at this clock. The check comes first.
   abbrev pub NoBoard : List ℕ → ℕ → BoardFault → Type 0
-  NoBoard plan start (Plan fault) = Fails yes-to lanes tasks plan fault
-  NoBoard plan start (ClockEnd clock) = Passes yes-to lanes tasks plan × (clock_end < start) × (clock ≡ start)
+  NoBoard plan start (Plan fault) = Fails yes_to lanes tasks plan fault
+  NoBoard plan start (ClockEnd clock) = Passes yes_to lanes tasks plan × (clock_end < start) × (clock ≡ start)
   NoBoard plan start (NoLane lane) = ⊥
   NoBoard plan start (NoTask task) = ⊥
   NoBoard plan start (Early clock) = ⊥
@@ -111,25 +111,25 @@ module _ (yes-to : List TaskRecord → TaskRecord → Type 0) (lanes : ℕ) (tas
   -- What set up answers and leaves: a new board, or the old one as it was.
   abbrev pub SetUp : List ℕ → ℕ → PlainBoard → Result (Unit {0}) BoardFault → PlainBoard → Type 0
   SetUp plan start before (Ok _) after =
-      Passes yes-to lanes tasks plan × (start ≤ clock_end) × (after ≡ new_board tasks lanes plan start)
+      Passes yes_to lanes tasks plan × (start ≤ clock_end) × (after ≡ new_board tasks lanes plan start)
   SetUp plan start before (Err fault) after = NoBoard plan start fault × (after ≡ before)
 
   -- What holds of every plan for these tasks, whoever made it, and whatever keeps the law of fit tests:
   pub record PlansAreJudged : Type 0 where
     -- on a plan that passes the check no run on any lane has a late job;
-    pub passed_is_safe : (plan : List ℕ) → Passes yes-to lanes tasks plan → LanesAreSafe lanes tasks plan
+    pub passed_is_safe : (plan : List ℕ) → Passes yes_to lanes tasks plan → LanesAreSafe lanes tasks plan
     -- what place places, the check passes;
-    pub placed_passes : (plan : List ℕ) → Places yes-to lanes tasks plan → Passes yes-to lanes tasks plan
+    pub placed_passes : (plan : List ℕ) → Places yes_to lanes tasks plan → Passes yes_to lanes tasks plan
     -- place, check and set up have at most one answer: one fault, with its number and place, or none. With their contracts,
     -- by which they give such an answer, each refuses exactly where one of its codes applies.
-    pub one_answer : Settled yes-to lanes tasks
+    pub one_answer : Settled yes_to lanes tasks
     pub one_board_fault : (plan : List ℕ) (start : ℕ) (f f' : BoardFault) → NoBoard plan start f → NoBoard plan start f' → f ≡ f'
-    pub no_fault_no_refusal : (plan : List ℕ) (start : ℕ) (f : BoardFault) → Passes yes-to lanes tasks plan → start ≤ clock_end → NoBoard plan start f → ⊥
+    pub no_fault_no_refusal : (plan : List ℕ) (start : ℕ) (f : BoardFault) → Passes yes_to lanes tasks plan → start ≤ clock_end → NoBoard plan start f → ⊥
 
   -- The whole promise, for a board that was set up from the plan at this clock and given these calls.
   pub record Promise (plan : List ℕ) (start : ℕ) (calls : List Call) (answers : List Answer) (left : PlainBoard) : Type 0 where
     -- the check passed the plan, and no run on any of its lanes has a late job
-    pub passed : Passes yes-to lanes tasks plan
+    pub passed : Passes yes_to lanes tasks plan
     pub safe : LanesAreSafe lanes tasks plan
     -- each call got the answer, or the number and place, that the plain board gives to the same list
     pub answered : answers ≡ answers_to (new_board tasks lanes plan start) calls

@@ -153,18 +153,18 @@ all_both P Q R f (t ∷ row) p q = (f t p.0 q.0, all_both P Q R f row p.1 q.1)
 
 pub linear_is_the_standard : LinearIsTheStandard
 linear_is_the_standard grid row asked range lawful = (
-  λ yes-to.
+  λ yes_to.
       record {
-        inequality_5 = worth_in grid limit lines work range.0 yes-to.in_time;
-        inequality_6 = worth_in grid one shares asked_share range.0 (omega (arith, mul-one grid, yes-to.shares));
+        inequality_5 = worth_in grid limit lines work range.0 yes_to.in_time;
+        inequality_6 = worth_in grid one shares asked_share range.0 (omega (arith, mul-one grid, yes_to.shares));
       },
-  λ by-standard.
+  λ by_standard.
       record {
         askable = lawful.askable;
         row_on_grid = lawful.row_on_grid;
         asked_on_grid = lawful.asked_on_grid;
-        in_time = worth_out grid limit lines work by-standard.inequality_5;
-        shares = omega (arith, mul-one grid, worth_out grid one shares asked_share by-standard.inequality_6);
+        in_time = worth_out grid limit lines work by_standard.inequality_5;
+        shares = omega (arith, mul-one grid, worth_out grid one shares asked_share by_standard.inequality_6);
       },
 )
   where

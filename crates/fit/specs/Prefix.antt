@@ -30,11 +30,11 @@ first_serve said (t ∷ row) below (s ∷ ss) = go (first_serve said row below s
         take (length row) (serve said (row ++ below) ss) ≡ serve said row (take (length row) ss) →
         (s.waiting ≡ []) ⊎ Waiting s →
         take (suc (length row)) (serve said (t ∷ (row ++ below)) (s ∷ ss)) ≡ serve said (t ∷ row) (s ∷ take (length row) ss)
-    go below-same (inl e) =
+    go below_same (inl e) =
         ap (take (suc (length row))) (serve_idle said t (row ++ below) s ss e)
-        ∙ ap {B = List Standing} (λ r. s ∷ r) below-same
+        ∙ ap {B = List Standing} (λ r. s ∷ r) below_same
         ∙ sym (serve_idle said t row s (take (length row) ss) e)
-    go below-same (inr w) =
+    go below_same (inr w) =
         ap (take (suc (length row))) (serve_waiting said t (row ++ below) s ss w)
         ∙ sym (serve_waiting said t row s (take (length row) ss) w)
 
@@ -113,10 +113,10 @@ lane_safe_in_turn row safe i =
 
 -- Whatever questions have a yes, if the law holds of them: a lane whose every task was accepted over those before it is safe.
 pub accepted_lanes_are_safe :
-    (yes-to : List TaskRecord → TaskRecord → Type 0) →
-    ((row : List TaskRecord) (asked : TaskRecord) → yes-to row asked → SafeTask (row ++ (asked ∷ [])) (length row)) →
-    AcceptedLanesAreSafe yes-to
-accepted_lanes_are_safe yes-to law row accepted =
+    (yes_to : List TaskRecord → TaskRecord → Type 0) →
+    ((row : List TaskRecord) (asked : TaskRecord) → yes_to row asked → SafeTask (row ++ (asked ∷ [])) (length row)) →
+    AcceptedLanesAreSafe yes_to
+accepted_lanes_are_safe yes_to law row accepted =
     lane_safe_in_turn row
     (λ k h.
     let below : k ≤ length row = omega arith in

@@ -67,29 +67,29 @@ shares_apart scale share time (t ∷ row) =
     )
 
 -- The two rules against a window that was full for `lead` slots before the job's release and `time + more` after it.
-shares_refuse : (scale asked_share work-sum share-sum asked-work lead time more slots asked-slots : ℕ) →
+shares_refuse : (scale asked_share work_sum share_sum asked_work lead time more slots asked_slots : ℕ) →
     1 ≤ scale →
-    scale * asked-work + (work-sum + share-sum * time) ≤ scale * time →
-    asked_share + share-sum ≤ scale →
-    scale * slots ≤ work-sum + share-sum * (lead + (time + more)) →
-    scale * (asked-slots + 1) ≤ scale * asked-work + asked_share * lead →
-    slots + asked-slots ≡ lead + (time + more) →
+    scale * asked_work + (work_sum + share_sum * time) ≤ scale * time →
+    asked_share + share_sum ≤ scale →
+    scale * slots ≤ work_sum + share_sum * (lead + (time + more)) →
+    scale * (asked_slots + 1) ≤ scale * asked_work + asked_share * lead →
+    slots + asked_slots ≡ lead + (time + more) →
     ⊥
-shares_refuse scale asked_share work-sum share-sum asked-work lead time more slots asked-slots some first second row asked full =
+shares_refuse scale asked_share work_sum share_sum asked_work lead time more slots asked_slots some first second row asked full =
     omega (
       arith,
-      mul-add share-sum lead (time + more),
-      mul-add share-sum time more,
-      mul-add scale asked-slots 1,
+      mul-add share_sum lead (time + more),
+      mul-add share_sum time more,
+      mul-add scale asked_slots 1,
       mul-one scale,
       ap (λ (n : ℕ). scale * n) full,
-      mul-add scale slots asked-slots,
+      mul-add scale slots asked_slots,
       mul-add scale lead (time + more),
       mul-add scale time more,
       mul-le-mul_right lead second,
-      add-mul asked_share share-sum lead,
+      add-mul asked_share share_sum lead,
       mul-le-mul_right more second,
-      add-mul asked_share share-sum more,
+      add-mul asked_share share_sum more,
     )
 
 pub share_rule : SharesBoundWaiting

@@ -84,12 +84,12 @@ abbrev pub Room : ℕ → TaskRecord → Type 0
 Room cost t = (t.work + cost ≤ t.limit) × (t.work + cost ≤ t.gap)
 
 -- The surcharge: the tasks as handed over are judged first, then the raised ones, then the test below is asked about these.
-pub record SurchargeYes (cost : ℕ) (yes-below : List TaskRecord → TaskRecord → Type 0) (row : List TaskRecord) (asked : TaskRecord)
+pub record SurchargeYes (cost : ℕ) (yes_below : List TaskRecord → TaskRecord → Type 0) (row : List TaskRecord) (asked : TaskRecord)
     : Type 0 where
   pub askable : Askable row asked
   pub row_room : AllByRecursion (Room cost) row
   pub asked_room : Room cost asked
-  pub below : yes-below (map (raised cost) row) (raised cost asked)
+  pub below : yes_below (map (raised cost) row) (raised cost asked)
 
 -- ---- Either
 

@@ -82,11 +82,11 @@ CountsBoundWaiting =
 
 -- Each task of the row was accepted over those before it, where these are the questions with a yes.
 abbrev pub AcceptedInTurn : (List TaskRecord → TaskRecord → Type 0) → List TaskRecord → Type 0
-AcceptedInTurn yes-to row = (k : ℕ) → k < length row → yes-to (take k row) (slice_index_or row k no_task)
+AcceptedInTurn yes_to row = (k : ℕ) → k < length row → yes_to (take k row) (slice_index_or row k no_task)
 
 -- A lane whose every task was accepted over those before it has no late job in any run.
 abbrev pub AcceptedLanesAreSafe : (List TaskRecord → TaskRecord → Type 0) → Type 0
-AcceptedLanesAreSafe yes-to = (row : List TaskRecord) → AcceptedInTurn yes-to row → SafeLane row
+AcceptedLanesAreSafe yes_to = (row : List TaskRecord) → AcceptedInTurn yes_to row → SafeLane row
 
 -- A safe task never has more jobs than places, where that many gaps cover its limit:
 -- whenever it may release a job, fewer wait.

@@ -6,7 +6,7 @@ use Rattle.installer.specs.Installing.{Answered, NoPlan}
 use Rattle.plan.proofs.Growing.{lanes_are-safe, placed_passes}
 use Rattle.plan.specs.Placing.{CannotPlace, Placed, Places}
 use Rattle.plan.specs.declared.fault.PlanFault.{PlanFault}
-use Rattle.plan.specs.declared.fault.PlanFault.TheVariants.{List as List-fault, PlanLength, NoLane, NoFit}
+use Rattle.plan.specs.declared.fault.PlanFault.TheVariants.{List as OfList, PlanLength, NoLane, NoFit}
 use Rattle.sheet.specs.Spelling.{Entry}
 use Rattle.std.proofs.lemmas.List.{drop_at, length-map, length-take-le, take-append-drop, take_at}
 use Rattle.tasks.specs.Filling.{tasks_of}
@@ -19,11 +19,11 @@ module _ (sheet before : List ℕ) (list : TaskList) (entries : List Entry) (spe
   all-tasks = ap length tasks_are ∙ length-map entries numbers_said
 
   pub too_few : (found : ℕ) → found ≡ length before → found < length (tasks_of list) → NoPlan sheet before (PlanLength found)
-  too_few found found-is few =
+  too_few found found_is few =
       let short : length before < length entries = omega (arith, all-tasks) in
-      (list.grid, list.lanes, entries, spells, short, found-is)
+      (list.grid, list.lanes, entries, spells, short, found_is)
 
-  module _ (over : ℕ) (over-is : over ≡ list.grid) (k : ℕ) (count : k ≡ length (tasks_of list)) (room : k ≤ length before) (part : List ℕ) where
+  module _ (over : ℕ) (over_is : over ≡ list.grid) (k : ℕ) (count : k ≡ length (tasks_of list)) (room : k ≤ length before) (part : List ℕ) where
     all : k ≡ length entries
     all = count ∙ all-tasks
 
@@ -33,7 +33,7 @@ module _ (sheet before : List ℕ) (list : TaskList) (entries : List Entry) (spe
         let tasks = tasks_said entries in
         let grid = list.grid in
         let lanes = list.lanes in
-        let here : Places (LinearYes grid) lanes tasks part = subst (λ g. Places (LinearYes g) lanes tasks part) over-is (subst (λ ts. Places (LinearYes over) lanes ts part) tasks_are p) in
+        let here : Places (LinearYes grid) lanes tasks part = subst (λ g. Places (LinearYes g) lanes tasks part) over_is (subst (λ ts. Places (LinearYes over) lanes ts part) tasks_are p) in
         let long : length part ≡ length entries = here.long ∙ length-map entries numbers_said in
         let front : part ≡ take (length entries) (part ++ drop k before) = sym (take_at part (drop k before) (length entries) long) in
         let places = subst (Places (LinearYes grid) lanes tasks) front here in
@@ -46,7 +46,7 @@ module _ (sheet before : List ℕ) (list : TaskList) (entries : List Entry) (spe
             room = omega (arith, all);
             places = places;
             safe = lanes_are-safe (LinearYes grid) lanes tasks (take (length entries) (part ++ drop k before))
-                (λ row asked yes-to. linear_safe grid row asked spells.grid_range yes-to)
+                (λ row asked yes_to. linear_safe grid row asked spells.grid_range yes_to)
                 (placed_passes (LinearYes grid) lanes tasks (take (length entries) (part ++ drop k before)) places);
             rest = drop_at part (drop k before) (length entries) long ∙ ap (λ (n : ℕ). drop n before) all;
           };
@@ -58,12 +58,12 @@ module _ (sheet before : List ℕ) (list : TaskList) (entries : List Entry) (spe
     answered (Err (NoFit task)) p =
         let lanes = list.lanes in
         let tasks = tasks_said entries in
-        let on-tasks = subst (λ ts. CannotPlace (LinearYes over) lanes ts (take k before) (NoFit task)) tasks_are p.0 in
-        let on_grid = subst (λ g. CannotPlace (LinearYes g) lanes tasks (take k before) (NoFit task)) over-is on-tasks in
+        let on_tasks = subst (λ ts. CannotPlace (LinearYes over) lanes ts (take k before) (NoFit task)) tasks_are p.0 in
+        let on_grid = subst (λ g. CannotPlace (LinearYes g) lanes tasks (take k before) (NoFit task)) over_is on_tasks in
         let here = subst (λ (n : ℕ). CannotPlace (LinearYes list.grid) lanes tasks (take n before) (NoFit task)) all on_grid in (
           (list.grid, lanes, entries, spells, omega (arith, all), here),
           ap (λ (xs : List ℕ). xs ++ drop k before) p.1 ∙ take-append-drop k before,
         )
     answered (Err (PlanLength found)) p = absurd (p.0.0 (length-take-le k before room ∙ count))
     answered (Err (NoLane task)) p = elim p.0 [ ]
-    answered (Err (List-fault fault)) p = elim p.0 [ ]
+    answered (Err (OfList fault)) p = elim p.0 [ ]

@@ -7,7 +7,7 @@ use Rattle.plan.proofs.Settled.{settled as placing}
 use Rattle.plan.specs.Codes.{number}
 use Rattle.plan.specs.Placing.{CannotPlace}
 use Rattle.plan.specs.declared.fault.PlanFault.{PlanFault}
-use Rattle.plan.specs.declared.fault.PlanFault.TheVariants.{List as List-fault, PlanLength, NoLane, NoFit}
+use Rattle.plan.specs.declared.fault.PlanFault.TheVariants.{List as OfList, PlanLength, NoLane, NoFit}
 use Rattle.sheet.specs.Spelling.{Entry}
 use Rattle.std.proofs.lemmas.List.{length-map, length-take-le, take-append-drop}
 use Rattle.tasks.proofs.Settled.{settled as reading}
@@ -40,7 +40,7 @@ module _ (sheet before : List ℕ) where
 
   -- where there is a plan there is no fault
   never_both : (after : List ℕ) → PlacedList sheet before after → (fault : PlanFault) → NoPlan sheet before fault → ⊥
-  never_both after p (List-fault fault) bad = reading.never_both sheet p.grid p.lanes p.entries fault p.spells bad
+  never_both after p (OfList fault) bad = reading.never_both sheet p.grid p.lanes p.entries fault p.spells bad
   never_both after p (PlanLength found) bad =
       let few = bad.4 in
       let room = p.written.room in
@@ -57,23 +57,23 @@ module _ (sheet before : List ℕ) where
 
   -- two faults have one number
   one_number : (f g : PlanFault) → NoPlan sheet before f → NoPlan sheet before g → number f ≡ number g
-  one_number (List-fault f) (List-fault g) a b = ap list.number (reading.one_fault sheet f g a b)
-  one_number (List-fault f) (PlanLength found) a b = absurd (reading.never_both sheet b.0 b.1 b.2 f b.3 a)
-  one_number (List-fault f) (NoFit task) a b = absurd (reading.never_both sheet b.0 b.1 b.2 f b.3 a)
-  one_number (PlanLength found) (List-fault g) a b = absurd (reading.never_both sheet a.0 a.1 a.2 g a.3 b)
+  one_number (OfList f) (OfList g) a b = ap list.number (reading.one_fault sheet f g a b)
+  one_number (OfList f) (PlanLength found) a b = absurd (reading.never_both sheet b.0 b.1 b.2 f b.3 a)
+  one_number (OfList f) (NoFit task) a b = absurd (reading.never_both sheet b.0 b.1 b.2 f b.3 a)
+  one_number (PlanLength found) (OfList g) a b = absurd (reading.never_both sheet a.0 a.1 a.2 g a.3 b)
   one_number (PlanLength found) (PlanLength found') a b = refl
   one_number (PlanLength found) (NoFit task) a b =
       let few = a.4 in
       let room = b.4 in
       absurd (omega (arith, as_many a.0 b.0 a.1 b.1 a.2 b.2 a.3 b.3))
-  one_number (NoFit task) (List-fault g) a b = absurd (reading.never_both sheet a.0 a.1 a.2 g a.3 b)
+  one_number (NoFit task) (OfList g) a b = absurd (reading.never_both sheet a.0 a.1 a.2 g a.3 b)
   one_number (NoFit task) (PlanLength found) a b =
       let few = b.4 in
       let room = a.4 in
       absurd (omega (arith, as_many a.0 b.0 a.1 b.1 a.2 b.2 a.3 b.3))
   one_number (NoFit task) (NoFit task') a b = refl
   one_number (NoLane task) g a b = elim a [ ]
-  one_number (List-fault f) (NoLane task) a b = elim b [ ]
+  one_number (OfList f) (NoLane task) a b = elim b [ ]
   one_number (PlanLength found) (NoLane task) a b = elim b [ ]
   one_number (NoFit task) (NoLane task') a b = elim b [ ]
 

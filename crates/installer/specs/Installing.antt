@@ -4,7 +4,7 @@ use Rattle.fit.specs.Tests.{LinearYes}
 use Rattle.plan.specs.Codes.{number}
 use Rattle.plan.specs.Placing.{CannotPlace, LanesAreSafe, Places}
 use Rattle.plan.specs.declared.fault.PlanFault.{PlanFault}
-use Rattle.plan.specs.declared.fault.PlanFault.TheVariants.{List as List-fault, PlanLength, NoLane, NoFit}
+use Rattle.plan.specs.declared.fault.PlanFault.TheVariants.{List as OfList, PlanLength, NoLane, NoFit}
 use Rattle.sheet.specs.Spelling.{Entry}
 use Rattle.tasks.specs.Reading.{Spells, Unreadable, tasks_said}
 
@@ -27,7 +27,7 @@ pub record PlacedList (sheet before after : List ℕ) : Type 0 where
 -- Why there is no plan, each fault only where none above it applies: the sheet spells no list; there are fewer plan
 -- bytes than entries; or first fit comes to a task that no lane takes.
 abbrev pub NoPlan : List ℕ → List ℕ → PlanFault → Type 0
-NoPlan sheet before (List-fault fault) = Unreadable sheet fault
+NoPlan sheet before (OfList fault) = Unreadable sheet fault
 NoPlan sheet before (PlanLength found) =
     (grid : ℕ) × (lanes : ℕ) × (entries : List Entry) × Spells sheet grid lanes entries × (length before < length entries) × (found ≡ length before)
 NoPlan sheet before (NoFit task) =

@@ -16,20 +16,20 @@ use Rattle.tasks.specs.Reading.{Spells, tasks_said}
 use Rattle.tasks.specs.declared.fault.ListFault.{ListFault}
 use Rattle.tasks.specs.declared.record.TaskRecord.{TaskRecord}
 
-module _ (yes-to : List TaskRecord → TaskRecord → Type 0) (lanes : ℕ) (entries : List Entry) (heading : List ℕ) where
+module _ (yes_to : List TaskRecord → TaskRecord → Type 0) (lanes : ℕ) (entries : List Entry) (heading : List ℕ) where
   -- the first task without a lane, whichever the bytes that were handed over
-  one-unplaced : (plan plan' : List ℕ) (task task' : ℕ) → CannotPlace yes-to lanes (tasks_said entries) plan (NoFit task)
-      → CannotPlace yes-to lanes (tasks_said entries) plan' (NoFit task') → ◌≡◌ {A = PlanFault} (NoFit task) (NoFit task')
+  one-unplaced : (plan plan' : List ℕ) (task task' : ℕ) → CannotPlace yes_to lanes (tasks_said entries) plan (NoFit task)
+      → CannotPlace yes_to lanes (tasks_said entries) plan' (NoFit task') → ◌≡◌ {A = PlanFault} (NoFit task) (NoFit task')
   one-unplaced plan plan' task task' a b =
-      (placing yes-to lanes (tasks_said entries)).one_place_fault plan (NoFit task) (NoFit task') a (b.0, b.1, a.2, b.3, b.4, b.5, b.6)
+      (placing yes_to lanes (tasks_said entries)).one_place_fault plan (NoFit task) (NoFit task') a (b.0, b.1, a.2, b.3, b.4, b.5, b.6)
 
-  one_block : (one other : List ℕ) → Block yes-to lanes entries heading one → Block yes-to lanes entries heading other → one ≡ other
+  one_block : (one other : List ℕ) → Block yes_to lanes entries heading one → Block yes_to lanes entries heading other → one ≡ other
   one_block _ _ (placed plan a) (placed plan' b) =
-      ap (λ (p : List ℕ). heading ++ task_lines p entries (length entries)) ((placing yes-to lanes (tasks_said entries)).one_placing plan plan' a b)
+      ap (λ (p : List ℕ). heading ++ task_lines p entries (length entries)) ((placing yes_to lanes (tasks_said entries)).one_placing plan plan' a b)
   one_block _ _ (placed plan a) (unplaced plan' task' b) =
-      absurd ((placing yes-to lanes (tasks_said entries)).no_fault_placed plan' plan (NoFit task') b.2 b a)
+      absurd ((placing yes_to lanes (tasks_said entries)).no_fault_placed plan' plan (NoFit task') b.2 b a)
   one_block _ _ (unplaced plan task a) (placed plan' b) =
-      absurd ((placing yes-to lanes (tasks_said entries)).no_fault_placed plan plan' (NoFit task) a.2 a b)
+      absurd ((placing yes_to lanes (tasks_said entries)).no_fault_placed plan plan' (NoFit task) a.2 a b)
   one_block _ _ (unplaced plan task a) (unplaced plan' task' b) =
       ap (λ (f : PlanFault). heading ++ refusal_line 12 (of-plan.place f)) (one-unplaced plan plan' task task' a b)
 

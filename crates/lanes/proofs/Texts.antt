@@ -18,16 +18,16 @@ pub whole_text : (bytes : List ℕ) (list : TaskList) (text summed lineared done
     → BlockAdded (LinearYes over) bytes list (codes "linear\n") summed lineared
     → BlockAdded (EitherYes (LinearYes over) ExactYes) bytes list (codes "either\n") lineared done
     → ReadTextAdded bytes list text done
-whole_text bytes list text summed lineared done count lanes grid over count-is lanes_are grid_is over-is sum linear either entries read =
+whole_text bytes list text summed lineared done count lanes grid over count_is lanes_are grid_is over_is sum linear either entries read =
     let l = linear entries read in
     let e = either entries read in
-    let l-block = subst (λ g. Block (LinearYes g) list.lanes entries (codes "linear\n") l.0) over-is l.1 in
-    let e-block = subst (λ g. Block (EitherYes (LinearYes g) ExactYes) list.lanes entries (codes "either\n") e.0) over-is e.1 in
-    let all : count ≡ length entries = count-is ∙ ap length read.tasks_are ∙ length-map entries numbers_said in
+    let l_block = subst (λ g. Block (LinearYes g) list.lanes entries (codes "linear\n") l.0) over_is l.1 in
+    let e_block = subst (λ g. Block (EitherYes (LinearYes g) ExactYes) list.lanes entries (codes "either\n") e.0) over_is e.1 in
+    let all : count ≡ length entries = count_is ∙ ap length read.tasks_are ∙ length-map entries numbers_said in
     let line : summary_line count lanes grid ≡ summary_line (length entries) list.lanes list.grid =
     ap (λ n. summary_line n lanes grid) all ∙ ap (λ m. summary_line (length entries) m grid) lanes_are ∙ ap (λ g. summary_line (length entries) list.lanes g) grid_is in (
       summary_line (length entries) list.lanes list.grid ++ (l.0 ++ e.0),
-      accepted read.spells l-block e-block,
+      accepted read.spells l_block e_block,
       e.2
           ∙ ap (λ t. t ++ e.0) (l.2 ∙ ap (λ t. t ++ l.0) (sum ∙ ap (λ s. text ++ s) line))
           ∙ four text (summary_line (length entries) list.lanes list.grid) l.0 e.0,

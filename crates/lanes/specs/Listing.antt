@@ -34,11 +34,11 @@ task_lines plan entries (suc count) =
     task_lines plan entries count ++ task_line count (lane_of plan count) (slice_index_or entries count no_entry).name
 
 -- A block: its heading, and then where first fit under a test places each task, or the first task that no lane takes.
-pub data Block (yes-to : List TaskRecord → TaskRecord → Type 0) (lanes : ℕ) (entries : List Entry) (heading : List ℕ) : List ℕ → Type 0 where
-  placed : (plan : List ℕ) → Places yes-to lanes (tasks_said entries) plan
-      → Block yes-to lanes entries heading (heading ++ task_lines plan entries (length entries))
-  unplaced : (plan : List ℕ) (task : ℕ) → CannotPlace yes-to lanes (tasks_said entries) plan (NoFit task)
-      → Block yes-to lanes entries heading (heading ++ refusal_line 12 task)
+pub data Block (yes_to : List TaskRecord → TaskRecord → Type 0) (lanes : ℕ) (entries : List Entry) (heading : List ℕ) : List ℕ → Type 0 where
+  placed : (plan : List ℕ) → Places yes_to lanes (tasks_said entries) plan
+      → Block yes_to lanes entries heading (heading ++ task_lines plan entries (length entries))
+  unplaced : (plan : List ℕ) (task : ℕ) → CannotPlace yes_to lanes (tasks_said entries) plan (NoFit task)
+      → Block yes_to lanes entries heading (heading ++ refusal_line 12 task)
 
 -- The text for these bytes: the summary of the list that they spell, and a block by the linear test and one by the
 -- linear test or the exact one; or the fault for which they spell no list.

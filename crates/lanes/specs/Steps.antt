@@ -24,9 +24,9 @@ LinesAdded bytes plan count before after =
 
 -- A block was added to the text.
 abbrev pub BlockAdded : (List TaskRecord → TaskRecord → Type 0) → List ℕ → TaskList → List ℕ → List ℕ → List ℕ → Type 0
-BlockAdded yes-to bytes list heading before after =
+BlockAdded yes_to bytes list heading before after =
     (entries : List Entry) → Read_from bytes list entries
-    → (block : List ℕ) × Block yes-to list.lanes entries heading block × (after ≡ before ++ block)
+    → (block : List ℕ) × Block yes_to list.lanes entries heading block × (after ≡ before ++ block)
 
 -- The text for a list that was read was added.
 abbrev pub ReadTextAdded : List ℕ → TaskList → List ℕ → List ℕ → Type 0

@@ -5,7 +5,7 @@ use Rattle.tasks.specs.declared.record.TaskRecord.{TaskRecord}
 use Rattle.plan.specs.Placing.{CannotPlace, FirstFit, Passes, Places, Takes, lane_of, turn}
 use Rattle.plan.specs.Steps.{FirstFitted}
 use Rattle.plan.specs.declared.fault.PlanFault.{PlanFault}
-use Rattle.plan.specs.declared.fault.PlanFault.TheVariants.{List as List-fault, PlanLength, NoLane, NoFit}
+use Rattle.plan.specs.declared.fault.PlanFault.TheVariants.{List as OfList, PlanLength, NoLane, NoFit}
 use Rattle.plan.proofs.Growing.{Agree, placed_passes, written_agrees}
 use Rattle.plan.proofs.Order.{turn-within}
 use Rattle.plan.proofs.Settled.{Begun, takes_alike}
@@ -17,22 +17,22 @@ one_found e f = cc
 pub found_or_not : {o : Option ℕ} {x : ℕ} → o ≡ Some x → o ≡ None → ⊥
 found_or_not e f = let z : ◌≡◌ {A = ℕ} 0 1 = cc in omega arith
 
-module _ (yes-to : List TaskRecord → TaskRecord → Type 0) (lanes : ℕ) (tasks : List TaskRecord) where
+module _ (yes_to : List TaskRecord → TaskRecord → Type 0) (lanes : ℕ) (tasks : List TaskRecord) where
   -- First fit looks at nothing but the lanes up to this turn.
   pub first_fit_alike :
       (plan plan' : List ℕ) (k : ℕ) → k < length tasks → Agree tasks plan plan' (k + 1)
-      → FirstFit yes-to lanes tasks plan k → FirstFit yes-to lanes tasks plan' k
+      → FirstFit yes_to lanes tasks plan k → FirstFit yes_to lanes tasks plan' k
   first_fit_alike plan plan' k h a f =
       let own = lane_of plan (turn tasks k) in
       let same = a k (omega arith) in
       record {
         on_lane = subst (λ (lane : ℕ). lane < lanes) same f.on_lane;
         fits =
-            subst (λ (lane : ℕ). Takes yes-to lanes tasks plan' lane k) same
-            (takes_alike yes-to lanes tasks plan plan' own k (omega arith) (λ j l. a j (omega arith)) f.fits);
+            subst (λ (lane : ℕ). Takes yes_to lanes tasks plan' lane k) same
+            (takes_alike yes_to lanes tasks plan plan' own k (omega arith) (λ j l. a j (omega arith)) f.fits);
         lower_refuse = λ lane l takes.
             f.lower_refuse lane (omega (arith, same))
-            (takes_alike yes-to lanes tasks plan' plan lane k (omega arith) (λ j m. sym (a j (omega arith))) takes);
+            (takes_alike yes_to lanes tasks plan' plan lane k (omega arith) (λ j m. sym (a j (omega arith))) takes);
       }
 
   module _ (plan : List ℕ) (k number lane : ℕ) (h : k < length tasks) (is : number ≡ turn tasks k) where
@@ -41,29 +41,29 @@ module _ (yes-to : List TaskRecord → TaskRecord → Type 0) (lanes : ℕ) (tas
 
     -- The next task gets the first lane that takes it.
     pub begun-next :
-        number < length plan → lane < lanes → Begun yes-to lanes tasks plan k → Takes yes-to lanes tasks plan lane k
-        → ((lower : ℕ) → lower < lane → Takes yes-to lanes tasks plan lower k → ⊥)
-        → Begun yes-to lanes tasks (set plan number lane) (k + 1)
+        number < length plan → lane < lanes → Begun yes_to lanes tasks plan k → Takes yes_to lanes tasks plan lane k
+        → ((lower : ℕ) → lower < lane → Takes yes_to lanes tasks plan lower k → ⊥)
+        → Begun yes_to lanes tasks (set plan number lane) (k + 1)
     begun-next inside on begun takes none =
         let plan' = set plan number lane in
         let own : lane_of plan' (turn tasks k) ≡ lane =
         ap (lane_of plan') (sym is) ∙ get_or-set_same plan number lane 0 inside in
-        below_more (λ (j : ℕ). FirstFit yes-to lanes tasks plan' j) k
+        below_more (λ (j : ℕ). FirstFit yes_to lanes tasks plan' j) k
         (λ j l. first_fit_alike plan plan' j (omega arith) (λ i m. writing_agrees i (omega arith)) (begun j l))
         (record {
           on_lane = omega (arith, own);
           fits =
-              subst (λ (l : ℕ). Takes yes-to lanes tasks plan' l k) (sym own)
-              (takes_alike yes-to lanes tasks plan plan' lane k (omega arith) writing_agrees takes);
+              subst (λ (l : ℕ). Takes yes_to lanes tasks plan' l k) (sym own)
+              (takes_alike yes_to lanes tasks plan plan' lane k (omega arith) writing_agrees takes);
           lower_refuse = λ lower l t.
               none lower (omega (arith, own))
-              (takes_alike yes-to lanes tasks plan' plan lower k (omega arith) (λ j m. sym (writing_agrees j m)) t);
+              (takes_alike yes_to lanes tasks plan' plan lower k (omega arith) (λ j m. sym (writing_agrees j m)) t);
         })
 
   -- The first bytes of the plan are the placing.
   placing_front :
-      (plan : List ℕ) → length tasks ≤ length plan → Begun yes-to lanes tasks plan (length tasks)
-      → Places yes-to lanes tasks (take (length tasks) plan)
+      (plan : List ℕ) → length tasks ≤ length plan → Begun yes_to lanes tasks plan (length tasks)
+      → Places yes_to lanes tasks (take (length tasks) plan)
   placing_front plan long begun =
       let front = take (length tasks) plan in
       record {
@@ -77,16 +77,16 @@ module _ (yes-to : List TaskRecord → TaskRecord → Type 0) (lanes : ℕ) (tas
       }
 
   pub placed_front :
-      (plan : List ℕ) → length tasks ≤ length plan → Begun yes-to lanes tasks plan (length tasks)
-      → Places yes-to lanes tasks (take (length tasks) plan) × Passes yes-to lanes tasks (take (length tasks) plan)
+      (plan : List ℕ) → length tasks ≤ length plan → Begun yes_to lanes tasks plan (length tasks)
+      → Places yes_to lanes tasks (take (length tasks) plan) × Passes yes_to lanes tasks (take (length tasks) plan)
   placed_front plan long begun =
-      let places = placing_front plan long begun in (places, placed_passes yes-to lanes tasks (take (length tasks) plan) places)
+      let places = placing_front plan long begun in (places, placed_passes yes_to lanes tasks (take (length tasks) plan) places)
 
   -- If none was found, there is none.
   pub none_fitted :
       (before : List ℕ) → length before ≡ length tasks → (fault : PlanFault)
-      → FirstFitted yes-to lanes tasks (Err fault) → CannotPlace yes-to lanes tasks before fault
+      → FirstFitted yes_to lanes tasks (Err fault) → CannotPlace yes_to lanes tasks before fault
   none_fitted before long (NoFit number) h = (h.0, h.1, long, h.2, h.3, h.4, h.5)
-  none_fitted before long (List-fault fault) h = h
+  none_fitted before long (OfList fault) h = h
   none_fitted before long (PlanLength found) h = absurd h
   none_fitted before long (NoLane number) h = h

@@ -81,52 +81,52 @@ module _ (tasks : List TaskRecord) where
 
 -- One more accepted task.
 pub accepted_push :
-    (yes-to : List TaskRecord → TaskRecord → Type 0) (row : List TaskRecord) (t : TaskRecord)
-    → AcceptedInTurn yes-to row → yes-to row t → AcceptedInTurn yes-to (row ++ (t ∷ []))
-accepted_push yes-to row t h y k l =
+    (yes_to : List TaskRecord → TaskRecord → Type 0) (row : List TaskRecord) (t : TaskRecord)
+    → AcceptedInTurn yes_to row → yes_to row t → AcceptedInTurn yes_to (row ++ (t ∷ []))
+accepted_push yes_to row t h y k l =
     ⊎_elim
     (λ below.
     let front : take k (row ++ (t ∷ [])) ≡ take k row = take-append-le k row (t ∷ []) (omega arith) in
     let here : get_or (row ++ (t ∷ [])) k no_task ≡ get_or row k no_task = get_or_append_left row (t ∷ []) no_task k below in
-    subst (λ (r : List TaskRecord). yes-to r (get_or (row ++ (t ∷ [])) k no_task)) (sym front)
-    (subst (λ (x : TaskRecord). yes-to (take k row) x) (sym here) (h k below)))
+    subst (λ (r : List TaskRecord). yes_to r (get_or (row ++ (t ∷ [])) k no_task)) (sym front)
+    (subst (λ (x : TaskRecord). yes_to (take k row) x) (sym here) (h k below)))
     (λ past.
     let last : length row ≡ k = omega (arith, length_push row t) in
-    subst (λ (r : List TaskRecord). yes-to r (get_or (row ++ (t ∷ [])) k no_task)) (sym (take_at row (t ∷ []) k last))
-    (subst (λ (x : TaskRecord). yes-to row x) (sym (get_or_push row t no_task k last)) y))
+    subst (λ (r : List TaskRecord). yes_to r (get_or (row ++ (t ∷ [])) k no_task)) (sym (take_at row (t ∷ []) k last))
+    (subst (λ (x : TaskRecord). yes_to row x) (sym (get_or_push row t no_task k last)) y))
     (cases_lt k (length row))
 
-module _ (yes-to : List TaskRecord → TaskRecord → Type 0) (lanes : ℕ) (tasks : List TaskRecord) (plan : List ℕ) where
+module _ (yes_to : List TaskRecord → TaskRecord → Type 0) (lanes : ℕ) (tasks : List TaskRecord) (plan : List ℕ) where
   -- Where each task fits, the row of a lane was accepted task by task.
   pub accepted_rows :
-      (lane k : ℕ) → k ≤ length tasks → ((j : ℕ) → j < k → Fits yes-to lanes tasks plan j)
-      → AcceptedInTurn yes-to (row_at tasks plan lane k)
+      (lane k : ℕ) → k ≤ length tasks → ((j : ℕ) → j < k → Fits yes_to lanes tasks plan j)
+      → AcceptedInTurn yes_to (row_at tasks plan lane k)
   accepted_rows lane zero h fits = λ i l. absurd (omega arith)
   accepted_rows lane (suc k) h fits =
       let before = accepted_rows lane k (omega arith) (λ j l. fits j (omega arith)) in
       let inside : k < length tasks = omega arith in
       let t = record_of tasks (turn tasks k) in
-      subst (λ (i : ℕ). AcceptedInTurn yes-to (row_at tasks plan lane i)) (add-one k)
+      subst (λ (i : ℕ). AcceptedInTurn yes_to (row_at tasks plan lane i)) (add-one k)
       (⊎_elim
       (λ same.
-      subst (AcceptedInTurn yes-to) (sym (row_grows tasks plan lane k inside same))
-      (accepted_push yes-to (row_at tasks plan lane k) t before
-      (subst (λ (own : ℕ). Takes yes-to lanes tasks plan own k) same (fits k (omega arith)))))
-      (λ other. subst (AcceptedInTurn yes-to) (sym (row_stays tasks plan lane k inside other)) before)
+      subst (AcceptedInTurn yes_to) (sym (row_grows tasks plan lane k inside same))
+      (accepted_push yes_to (row_at tasks plan lane k) t before
+      (subst (λ (own : ℕ). Takes yes_to lanes tasks plan own k) same (fits k (omega arith)))))
+      (λ other. subst (AcceptedInTurn yes_to) (sym (row_stays tasks plan lane k inside other)) before)
       (cases_eq (lane_of plan (turn tasks k)) lane))
 
   -- The check's promise: if the test keeps the law, a plan that passes has no late job on any lane, in any run.
   pub lanes_are-safe :
-      ((row : List TaskRecord) (asked : TaskRecord) → yes-to row asked → SafeTask (row ++ (asked ∷ [])) (length row))
-      → Passes yes-to lanes tasks plan → LanesAreSafe lanes tasks plan
+      ((row : List TaskRecord) (asked : TaskRecord) → yes_to row asked → SafeTask (row ++ (asked ∷ [])) (length row))
+      → Passes yes_to lanes tasks plan → LanesAreSafe lanes tasks plan
   lanes_are-safe law passes lane l =
-      accepted_lanes_are_safe yes-to law (lane_row tasks plan lane)
-      (subst (λ (numbers : List ℕ). AcceptedInTurn yes-to (row_among tasks plan lane numbers))
+      accepted_lanes_are_safe yes_to law (lane_row tasks plan lane)
+      (subst (λ (numbers : List ℕ). AcceptedInTurn yes_to (row_among tasks plan lane numbers))
       (take_all (length tasks) (order tasks) (omega (arith, length-order tasks)))
       (accepted_rows lane (length tasks) (omega arith) passes.fits))
 
   -- A placing by first fit passes the check.
-  pub placed_passes : Places yes-to lanes tasks plan → Passes yes-to lanes tasks plan
+  pub placed_passes : Places yes_to lanes tasks plan → Passes yes_to lanes tasks plan
   placed_passes p =
       record {
         long = p.long;
@@ -138,11 +138,11 @@ module _ (yes-to : List TaskRecord → TaskRecord → Type 0) (lanes : ℕ) (tas
 
   -- What the check answers once length and lanes are seen to.
   pub checked_in_turn :
-      ((row : List TaskRecord) (asked : TaskRecord) → yes-to row asked → SafeTask (row ++ (asked ∷ [])) (length row))
-      → length plan ≡ length tasks → OnLanes yes-to lanes tasks plan → (r : Result (Unit {0}) PlanFault)
-      → MatchResult r (λ _. (k : ℕ) → k < length tasks → Fits yes-to lanes tasks plan k) (λ fault. Fails yes-to lanes tasks plan fault)
-      → Checked yes-to lanes tasks plan r
+      ((row : List TaskRecord) (asked : TaskRecord) → yes_to row asked → SafeTask (row ++ (asked ∷ [])) (length row))
+      → length plan ≡ length tasks → OnLanes yes_to lanes tasks plan → (r : Result (Unit {0}) PlanFault)
+      → MatchResult r (λ _. (k : ℕ) → k < length tasks → Fits yes_to lanes tasks plan k) (λ fault. Fails yes_to lanes tasks plan fault)
+      → Checked yes_to lanes tasks plan r
   checked_in_turn law long on (Ok _) fits =
-      let passes : Passes yes-to lanes tasks plan = record { long = long; on_lanes = on; fits = fits } in
+      let passes : Passes yes_to lanes tasks plan = record { long = long; on_lanes = on; fits = fits } in
       (passes, lanes_are-safe law passes)
   checked_in_turn law long on (Err fault) fails = fails

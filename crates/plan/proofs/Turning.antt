@@ -35,22 +35,22 @@ module _ (tasks : List TaskRecord) (plan : List ℕ) (k : ℕ) (rows : List Tabl
       }
 
   -- What a lane is asked about the next task is what the plan's row of that lane asks in this turn.
-  module _ (yes-to : List TaskRecord → TaskRecord → Type 0) (lanes : ℕ) (records : List TaskRecord) (same : records ≡ tasks) (number : ℕ) (is : number ≡ turn tasks k) (lane : ℕ) (l : lane < 4) where
+  module _ (yes_to : List TaskRecord → TaskRecord → Type 0) (lanes : ℕ) (records : List TaskRecord) (same : records ≡ tasks) (number : ℕ) (is : number ≡ turn tasks k) (lane : ℕ) (l : lane < 4) where
     same-task : record_of records number ≡ record_of tasks (turn tasks k)
     same-task = ap (λ (all : List TaskRecord). record_of all number) same ∙ ap (record_of tasks) is
 
-    pub asked_takes : yes-to (row_on rows lane) (record_of records number) → Takes yes-to lanes tasks plan lane k
+    pub asked_takes : yes_to (row_on rows lane) (record_of records number) → Takes yes_to lanes tasks plan lane k
     asked_takes yes' =
-        subst (λ (row : List TaskRecord). yes-to row (record_of tasks (turn tasks k))) (t.rows_are lane l)
-        (subst (λ (x : TaskRecord). yes-to (row_on rows lane) x) same-task yes')
+        subst (λ (row : List TaskRecord). yes_to row (record_of tasks (turn tasks k))) (t.rows_are lane l)
+        (subst (λ (x : TaskRecord). yes_to (row_on rows lane) x) same-task yes')
 
-    pub takes_asked : Takes yes-to lanes tasks plan lane k → yes-to (row_on rows lane) (record_of records number)
+    pub takes_asked : Takes yes_to lanes tasks plan lane k → yes_to (row_on rows lane) (record_of records number)
     takes_asked takes =
-        subst (λ (x : TaskRecord). yes-to (row_on rows lane) x) (sym same-task)
-        (subst (λ (row : List TaskRecord). yes-to row (record_of tasks (turn tasks k))) (sym (t.rows_are lane l)) takes)
+        subst (λ (x : TaskRecord). yes_to (row_on rows lane) x) (sym same-task)
+        (subst (λ (row : List TaskRecord). yes_to row (record_of tasks (turn tasks k))) (sym (t.rows_are lane l)) takes)
 
     pub asked_in_turn :
-        (r : Bool) → Decides r (yes-to (row_on rows lane) (record_of records number)) → Decides r (Takes yes-to lanes tasks plan lane k)
+        (r : Bool) → Decides r (yes_to (row_on rows lane) (record_of records number)) → Decides r (Takes yes_to lanes tasks plan lane k)
     asked_in_turn r d = (λ e. asked_takes (d.0 e), λ takes. d.1 (takes_asked takes))
 
   -- The next task joins the row of its lane.

@@ -3,7 +3,7 @@
 use Rattle.std.specs.Prelude.{◌≡◌, ℕ, suc, ◌<◌, ◌≤◌, true, ◌≢◌, List, [], ◌∷◌, map, length, take, Ok, Err, filter, Result, nat_eq, slice_index, slice_index_or}
 use Rattle.fit.specs.Lane.{SafeLane}
 use Rattle.plan.specs.declared.fault.PlanFault.{PlanFault}
-use Rattle.plan.specs.declared.fault.PlanFault.TheVariants.{List as List-fault, PlanLength, NoLane, NoFit}
+use Rattle.plan.specs.declared.fault.PlanFault.TheVariants.{List as OfList, PlanLength, NoLane, NoFit}
 use Rattle.queue.specs.InOrder.{in_order}
 use Rattle.tasks.specs.List.{blank}
 use Rattle.tasks.specs.Order.{goes_before, rank_of}
@@ -44,11 +44,11 @@ lane_row tasks plan lane = row_among tasks plan lane (order tasks)
 abbrev pub LanesAreSafe : ℕ → List TaskRecord → List ℕ → Type 0
 LanesAreSafe lanes tasks plan = (lane : ℕ) → lane < lanes → SafeLane (lane_row tasks plan lane)
 
--- Below, `yes-to` is the fit test's set of questions with a yes, and the box has `lanes` lanes.
-module _ (yes-to : List TaskRecord → TaskRecord → Type 0) (lanes : ℕ) (tasks : List TaskRecord) where
+-- Below, `yes_to` is the fit test's set of questions with a yes, and the box has `lanes` lanes.
+module _ (yes_to : List TaskRecord → TaskRecord → Type 0) (lanes : ℕ) (tasks : List TaskRecord) where
   -- The test says yes to the task whose turn is the k-th, over the tasks before it that are on this lane.
   abbrev pub Takes : List ℕ → ℕ → ℕ → Type 0
-  Takes plan lane k = yes-to (row_among tasks plan lane (earlier tasks k)) (record_of tasks (turn tasks k))
+  Takes plan lane k = yes_to (row_among tasks plan lane (earlier tasks k)) (record_of tasks (turn tasks k))
 
   -- Its own lane takes the task whose turn is the k-th.
   abbrev pub Fits : List ℕ → ℕ → Type 0
@@ -72,7 +72,7 @@ module _ (yes-to : List TaskRecord → TaskRecord → Type 0) (lanes : ℕ) (tas
       (length plan ≡ length tasks) × (number < length tasks) × (lanes ≤ lane_of plan number) × ((lower : ℕ) → lower < number → lane_of plan lower < lanes)
   Fails plan (NoFit number) =
       (k : ℕ) × (k < length tasks) × (number ≡ turn tasks k) × (Fits plan k → ⊥) × (length plan ≡ length tasks) × OnLanes plan × ((sooner : ℕ) → sooner < k → Fits plan sooner)
-  Fails plan (List-fault fault) = ⊥
+  Fails plan (OfList fault) = ⊥
 
   -- First fit, for the task whose turn is the k-th: its lane takes it, and every lower lane does not.
   -- Fisher, Baruah and Baker, ECRTS 2006, section 3.1.
@@ -93,7 +93,7 @@ module _ (yes-to : List TaskRecord → TaskRecord → Type 0) (lanes : ℕ) (tas
   CannotPlace plan (NoFit number) =
       (k : ℕ) × (begun : List ℕ) × (length plan ≡ length tasks) × (k < length tasks) × (number ≡ turn tasks k) × ((sooner : ℕ) → sooner < k → FirstFit begun sooner) × ((lane : ℕ) → lane < lanes → Takes begun lane k → ⊥)
   CannotPlace plan (NoLane number) = ⊥
-  CannotPlace plan (List-fault fault) = ⊥
+  CannotPlace plan (OfList fault) = ⊥
 
   -- What the check answers. A plan that passes has no late job on any lane, in any run:
   -- Fisher, Baruah and Baker, ECRTS 2006, Theorem 1.
@@ -115,9 +115,9 @@ pub record OrderOfTasks (tasks : List TaskRecord) : Type 0 where
       → goes_before (rank_of tasks (turn tasks j)) (rank_of tasks (turn tasks k)) ≡ true
 
 -- The answers of place and check are settled, whatever the test: at most one of them holds.
-pub record Settled (yes-to : List TaskRecord → TaskRecord → Type 0) (lanes : ℕ) (tasks : List TaskRecord) : Type 0 where
-  pub one_check_fault : (plan : List ℕ) (f f' : PlanFault) → Fails yes-to lanes tasks plan f → Fails yes-to lanes tasks plan f' → f ≡ f'
-  pub no_fault_passes : (plan : List ℕ) (f : PlanFault) → Fails yes-to lanes tasks plan f → Passes yes-to lanes tasks plan → ⊥
-  pub one_placing : (plan plan' : List ℕ) → Places yes-to lanes tasks plan → Places yes-to lanes tasks plan' → plan ≡ plan'
-  pub one_place_fault : (plan : List ℕ) (f f' : PlanFault) → CannotPlace yes-to lanes tasks plan f → CannotPlace yes-to lanes tasks plan f' → f ≡ f'
-  pub no_fault_placed : (before plan : List ℕ) (f : PlanFault) → length before ≡ length tasks → CannotPlace yes-to lanes tasks before f → Places yes-to lanes tasks plan → ⊥
+pub record Settled (yes_to : List TaskRecord → TaskRecord → Type 0) (lanes : ℕ) (tasks : List TaskRecord) : Type 0 where
+  pub one_check_fault : (plan : List ℕ) (f f' : PlanFault) → Fails yes_to lanes tasks plan f → Fails yes_to lanes tasks plan f' → f ≡ f'
+  pub no_fault_passes : (plan : List ℕ) (f : PlanFault) → Fails yes_to lanes tasks plan f → Passes yes_to lanes tasks plan → ⊥
+  pub one_placing : (plan plan' : List ℕ) → Places yes_to lanes tasks plan → Places yes_to lanes tasks plan' → plan ≡ plan'
+  pub one_place_fault : (plan : List ℕ) (f f' : PlanFault) → CannotPlace yes_to lanes tasks plan f → CannotPlace yes_to lanes tasks plan f' → f ≡ f'
+  pub no_fault_placed : (before plan : List ℕ) (f : PlanFault) → length before ≡ length tasks → CannotPlace yes_to lanes tasks before f → Places yes_to lanes tasks plan → ⊥

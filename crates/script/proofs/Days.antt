@@ -10,7 +10,7 @@ use Rattle.board.specs.declared.fault.BoardFault.TheVariants.{Plan}
 use Rattle.fit.specs.Tests.{CostRange, SurchargeYes}
 use Rattle.plan.specs.Placing.{CannotPlace}
 use Rattle.plan.specs.declared.fault.PlanFault.{PlanFault}
-use Rattle.plan.specs.declared.fault.PlanFault.TheVariants.{List as List-fault, PlanLength, NoLane, NoFit}
+use Rattle.plan.specs.declared.fault.PlanFault.TheVariants.{List as OfList, PlanLength, NoLane, NoFit}
 use Rattle.script.specs.Calls.{CallsSaid}
 use Rattle.script.specs.Day.{AfterHeadings, Chosen, Costed, DayRun, DayText, Named, NoDay, NoStart, Played, Replay, Unplaced, last_line, yes_by_name}
 use Rattle.script.specs.Day.AfterHeadings.{played}
@@ -24,23 +24,23 @@ use Rattle.words.specs.Spelling.{lines_of}
 use Rattle.script.specs.Texts.{answer_lines, given_in, not_understood_line, set_up_line}
 use Rattle.script.specs.declared.headings.TestName.{TestName}
 use Rattle.script.proofs.Sessions.{given_back}
-use Rattle.sheet.specs.Spelling.{Entry as Sheet-entry}
+use Rattle.sheet.specs.Spelling.{Entry as SheetEntry}
 use Rattle.std.proofs.lemmas.List.{length-map}
 use Rattle.tasks.specs.Reading.{Spells, tasks_said}
 use Rattle.tasks.specs.declared.record.TaskRecord.{TaskRecord}
 
-module _ (yes-to : List TaskRecord → TaskRecord → Type 0) (lanes : ℕ) (tasks : List TaskRecord) where
+module _ (yes_to : List TaskRecord → TaskRecord → Type 0) (lanes : ℕ) (tasks : List TaskRecord) where
   -- place had room for each task, so it found no lane for one
-  pub unplaced : (room : List ℕ) (fault : PlanFault) → length room ≡ length tasks → CannotPlace yes-to lanes tasks room fault → Unplaced yes-to lanes tasks (Plan fault)
+  pub unplaced : (room : List ℕ) (fault : PlanFault) → length room ≡ length tasks → CannotPlace yes_to lanes tasks room fault → Unplaced yes_to lanes tasks (Plan fault)
   unplaced room (NoFit task) long cannot = record { room = room; task = task; cannot = cannot; fault_is = refl }
   unplaced room (PlanLength found) long cannot = absurd (cannot.0 long)
   unplaced room (NoLane task) long cannot = elim cannot [ ]
-  unplaced room (List-fault fault) long cannot = elim cannot [ ]
+  unplaced room (OfList fault) long cannot = elim cannot [ ]
 
   -- the calls were performed with the day's plan
   pub performed : (proposal : Option (List ℕ)) (plan : List ℕ) (start : ℕ) (before : PlainBoard) (entries : List Entry) (r : Result (Unit {0}) BoardFault) (after : PlainBoard) (filled : List Entry)
-      → Chosen yes-to lanes tasks proposal plan → Performed yes-to lanes tasks plan start before entries r after filled
-      → Played yes-to lanes tasks proposal start entries r filled
+      → Chosen yes_to lanes tasks proposal plan → Performed yes_to lanes tasks plan start before entries r after filled
+      → Played yes_to lanes tasks proposal start entries r filled
   performed proposal plan start before entries (Ok u) after filled chosen done =
       let out = done.came_out in
       (out.0, record { plan = plan; chosen = chosen; in_time = out.3; left = after; promise = out.1 }, out.2)
@@ -50,24 +50,24 @@ module _ (yes-to : List TaskRecord → TaskRecord → Type 0) (lanes : ℕ) (tas
       inr (record { plan = plan; chosen = chosen; no_board = done.came_out.0 })
 
 -- a lawful cost, under another name
-pub at_cost : (yes-below yes-there : List TaskRecord → TaskRecord → Type 0) (cost there lanes : ℕ) (tasks : List TaskRecord) (proposal : Option (List ℕ)) (start : ℕ) (entries : List Entry) (r : Result (Unit {0}) BoardFault) (filled : List Entry)
-    → CostRange cost → there ≡ cost → yes-there ≡ yes-below
-    → Played (SurchargeYes there yes-there) lanes tasks proposal start entries r filled
-    → Costed yes-below cost lanes tasks proposal start entries r filled
-at_cost yes-below yes-there cost there lanes tasks proposal start entries (Ok u) filled range there-is yes-is done =
-    (range, subst (λ c. Played (SurchargeYes c yes-below) lanes tasks proposal start entries (Ok u) filled) there-is (subst (λ y. Played (SurchargeYes there y) lanes tasks proposal start entries (Ok u) filled) yes-is done))
-at_cost yes-below yes-there cost there lanes tasks proposal start entries (Err fault) filled range there-is yes-is done =
-    inr (range, subst (λ c. NoStart (SurchargeYes c yes-below) lanes tasks proposal start fault) there-is (subst (λ y. NoStart (SurchargeYes there y) lanes tasks proposal start fault) yes-is done))
+pub at_cost : (yes_below yes_there : List TaskRecord → TaskRecord → Type 0) (cost there lanes : ℕ) (tasks : List TaskRecord) (proposal : Option (List ℕ)) (start : ℕ) (entries : List Entry) (r : Result (Unit {0}) BoardFault) (filled : List Entry)
+    → CostRange cost → there ≡ cost → yes_there ≡ yes_below
+    → Played (SurchargeYes there yes_there) lanes tasks proposal start entries r filled
+    → Costed yes_below cost lanes tasks proposal start entries r filled
+at_cost yes_below yes_there cost there lanes tasks proposal start entries (Ok u) filled range there_is yes_is done =
+    (range, subst (λ c. Played (SurchargeYes c yes_below) lanes tasks proposal start entries (Ok u) filled) there_is (subst (λ y. Played (SurchargeYes there y) lanes tasks proposal start entries (Ok u) filled) yes_is done))
+at_cost yes_below yes_there cost there lanes tasks proposal start entries (Err fault) filled range there_is yes_is done =
+    inr (range, subst (λ c. NoStart (SurchargeYes c yes_below) lanes tasks proposal start fault) there_is (subst (λ y. NoStart (SurchargeYes there y) lanes tasks proposal start fault) yes_is done))
 
 -- the day of a sheet that spells a list
-pub day_of : (sheet : List ℕ) (grid lanes : ℕ) (listed : List TaskRecord) (tasks : List Sheet-entry) (proposal : Option (List ℕ)) (test : TestName) (cost start : ℕ) (entries : List Entry) (r : Result (Unit {0}) BoardFault) (filled : List Entry)
+pub day_of : (sheet : List ℕ) (grid lanes : ℕ) (listed : List TaskRecord) (tasks : List SheetEntry) (proposal : Option (List ℕ)) (test : TestName) (cost start : ℕ) (entries : List Entry) (r : Result (Unit {0}) BoardFault) (filled : List Entry)
     → Spells sheet grid lanes tasks → listed ≡ tasks_said tasks → Named test cost grid lanes listed proposal start entries r filled
     → DayRun sheet proposal test cost start entries r filled
-day_of sheet grid lanes listed tasks proposal test cost start entries (Ok u) filled spells listed-are named =
-    let here = subst (λ ts. Named test cost grid lanes ts proposal start entries (Ok u) filled) listed-are named in
+day_of sheet grid lanes listed tasks proposal test cost start entries (Ok u) filled spells listed_are named =
+    let here = subst (λ ts. Named test cost grid lanes ts proposal start entries (Ok u) filled) listed_are named in
     (here.1.0, record { grid = grid; lanes = lanes; tasks = tasks; spells = spells; in_range = here.0; made = here.1.1 }, here.1.2)
-day_of sheet grid lanes listed tasks proposal test cost start entries (Err fault) filled spells listed-are named =
-    elim (subst (λ ts. Named test cost grid lanes ts proposal start entries (Err fault) filled) listed-are named) [
+day_of sheet grid lanes listed tasks proposal test cost start entries (Err fault) filled spells listed_are named =
+    elim (subst (λ ts. Named test cost grid lanes ts proposal start entries (Err fault) filled) listed_are named) [
       | inl over ↦ subst (NoDay sheet proposal test cost start) (sym over.1) (costly spells over.0)
       | inr within ↦ no_start spells within.0 within.1
     ]
@@ -82,16 +82,16 @@ pub day_text : (sheet : List ℕ) (proposal : Option (List ℕ)) (test : TestNam
     → CallsSaid lines (calls_of entries) stopped → DayRun sheet proposal test cost start entries (Ok tt) filled
     → set_up ≡ text ++ set_up_line → lined ≡ set_up ++ answer_lines lines (given_in filled) → done ≡ lined ++ last_line stopped (length entries)
     → (more : List ℕ) × AfterHeadings sheet proposal test cost start lines more × (done ≡ text ++ more)
-day_text sheet proposal test cost start lines entries filled stopped text set_up lined done said run set_up-is lined-is done-is =
+day_text sheet proposal test cost start lines entries filled stopped text set_up lined done said run set_up_is lined_is done_is =
     let answers = run.0 in
     let calls = calls_of entries in
     let count : length calls ≡ length entries = length-map entries (λ (e : Entry). e.call) in
     let long : length answers ≡ length entries = ap length run.1.made.promise.answered ∙ length_answers _ calls ∙ count in
     let back : given_in filled ≡ answers = ap given_in run.2 ∙ given_back entries answers long in
     let whole : done ≡ text ++ (set_up_line ++ (answer_lines lines answers ++ last_line stopped (length calls))) =
-    done-is
+    done_is
     ∙ ap (λ n. lined ++ last_line stopped n) (sym count)
-    ∙ ap (λ t. t ++ last_line stopped (length calls)) (lined-is ∙ ap (λ given. set_up ++ answer_lines lines given) back ∙ ap (λ t. t ++ answer_lines lines answers) set_up-is)
+    ∙ ap (λ t. t ++ last_line stopped (length calls)) (lined_is ∙ ap (λ given. set_up ++ answer_lines lines given) back ∙ ap (λ t. t ++ answer_lines lines answers) set_up_is)
     ∙ append_assoc (text ++ set_up_line) (answer_lines lines answers) (last_line stopped (length calls))
     ∙ append_assoc text set_up_line (answer_lines lines answers ++ last_line stopped (length calls)) in
     (set_up_line ++ (answer_lines lines answers ++ last_line stopped (length calls)), played said run.1, whole)
@@ -100,20 +100,20 @@ day_text sheet proposal test cost start lines entries filled stopped text set_up
 pub by_name : (name test : TestName) (cost there grid lanes : ℕ) (tasks : List TaskRecord) (proposal : Option (List ℕ)) (start : ℕ) (entries : List Entry) (r : Result (Unit {0}) BoardFault) (filled : List Entry)
     → test ≡ name → there ≡ grid → Costed (yes_by_name name there) cost lanes tasks proposal start entries r filled
     → Named test cost grid lanes tasks proposal start entries r filled
-by_name name test cost there grid lanes tasks proposal start entries r filled test-is there-is done =
-    subst (λ t. Costed (yes_by_name t grid) cost lanes tasks proposal start entries r filled) (sym test-is)
-    (subst (λ n. Costed (yes_by_name name n) cost lanes tasks proposal start entries r filled) there-is done)
+by_name name test cost there grid lanes tasks proposal start entries r filled test_is there_is done =
+    subst (λ t. Costed (yes_by_name t grid) cost lanes tasks proposal start entries r filled) (sym test_is)
+    (subst (λ n. Costed (yes_by_name name n) cost lanes tasks proposal start entries r filled) there_is done)
 
 -- what is printed for an input with its headings, and for one without
 pub headed_text : (input : List ℕ) (lines left : List (List ℕ)) (h : Headings) (empty grown text : List ℕ) → lines ≡ lines_of input → Opened lines (opening.Headed h) left
     → empty ≡ [] → DayText h left empty grown → text ≡ grown → Replay input text
-headed_text input lines left h empty grown text lines_are opened none day text-is =
+headed_text input lines left h empty grown text lines_are opened none day text_is =
     let here = subst (λ ls. Opened ls (opening.Headed h) left) lines_are opened in
     let after = subst (λ ls. AfterHeadings (vec_items h.sheet) (proposed h.plan) h.fit.test h.fit.cost h.start ls day.0) here.1 day.1 in
-    subst (Replay input) (sym (text-is ∙ day.2 ∙ ap (λ t. t ++ day.0) none)) (headed (proposed h.plan) h.fit.test here.0 after)
+    subst (Replay input) (sym (text_is ∙ day.2 ∙ ap (λ t. t ++ day.0) none)) (headed (proposed h.plan) h.fit.test here.0 after)
 
 pub unheaded_text : (input : List ℕ) (lines left : List (List ℕ)) (line : ℕ) (empty grown text : List ℕ) → lines ≡ lines_of input → Opened lines (opening.NotUnderstood line) left
     → empty ≡ [] → grown ≡ empty ++ not_understood_line line → text ≡ grown → Replay input text
-unheaded_text input lines left line empty grown text lines_are opened none grown-is text-is =
+unheaded_text input lines left line empty grown text lines_are opened none grown_is text_is =
     let here = subst (λ ls. Opened ls (opening.NotUnderstood line) left) lines_are opened in
-    subst (Replay input) (sym (text-is ∙ grown-is ∙ ap (λ t. t ++ not_understood_line line) none)) (unheaded here)
+    subst (Replay input) (sym (text_is ∙ grown_is ∙ ap (λ t. t ++ not_understood_line line) none)) (unheaded here)

@@ -8,13 +8,13 @@ step [] rest k is = ap (λ ls. line_at ls k) is
 step (line ∷ lines) rest k is = ap (λ ls. line_at ls k) is
 
 pub second-line : (lines a : List (List ℕ)) → a ≡ drop 1 lines → line_at a 0 ≡ line_at lines 1
-second-line lines a a-is = step lines a 0 a-is
+second-line lines a a_is = step lines a 0 a_is
 
 pub third-line : (lines a b : List (List ℕ)) → a ≡ drop 1 lines → b ≡ drop 1 a → line_at b 0 ≡ line_at lines 2
-third-line lines a b a-is b-is = step a b 0 b-is ∙ step lines a 1 a-is
+third-line lines a b a_is b_is = step a b 0 b_is ∙ step lines a 1 a_is
 
 pub fourth_line : (lines a b c : List (List ℕ)) → a ≡ drop 1 lines → b ≡ drop 1 a → c ≡ drop 1 b → line_at c 0 ≡ line_at lines 3
-fourth_line lines a b c a-is b-is c-is = step b c 0 c-is ∙ step a b 1 b-is ∙ step lines a 2 a-is
+fourth_line lines a b c a_is b_is c_is = step b c 0 c_is ∙ step a b 1 b_is ∙ step lines a 2 a_is
 
 -- what was read of a line, at another name of the line and of what was found
 pub read_at : {A : Type 0} (R : List ℕ → Option A → Type 0) {line line' : List ℕ} {found found' : Option A} → line ≡ line' → found ≡ found' → R line found → R line' found'

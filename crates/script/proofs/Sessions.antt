@@ -15,8 +15,8 @@ SaidSoFar all left calls = (more : List Call) (stopped : Bool) → CallsSaid lef
 
 pub said-one_more : (all left after : List (List ℕ)) (line : List ℕ) (calls grown : List Call) (call : Call) → left ≡ line ∷ after → SaysCall line call → grown ≡ calls ++ (call ∷ [])
     → SaidSoFar all left calls → SaidSoFar all after grown
-said-one_more all left after line calls grown call left_is says grown-is so_far more stopped said =
-    subst (λ cs. CallsSaid all cs stopped) (sym (ap (λ g. g ++ more) grown-is ∙ append_assoc calls (call ∷ []) more))
+said-one_more all left after line calls grown call left_is says grown_is so_far more stopped said =
+    subst (λ cs. CallsSaid all cs stopped) (sym (ap (λ g. g ++ more) grown_is ∙ append_assoc calls (call ∷ []) more))
     (so_far (call ∷ more) stopped (subst (λ ls. CallsSaid ls (call ∷ more) stopped) (sym left_is) (goes_on says said)))
 
 pub said_until : (all left after : List (List ℕ)) (line : List ℕ) (calls : List Call) → left ≡ line ∷ after → SaysNone line → SaidSoFar all left calls → CallsSaid all calls true
@@ -63,7 +63,7 @@ given_back (entry ∷ entries) (answer ∷ answers) long = ap (λ given. answer 
 pub one_more-line : (text grown : List ℕ) (left after : List (List ℕ)) (line : List ℕ) (answers later : List Answer) (answer : Answer)
     → left ≡ line ∷ after → answers ≡ answer ∷ later → grown ≡ text ++ answer_line line answer
     → grown ++ answer_lines after later ≡ text ++ answer_lines left answers
-one_more-line text grown left after line answers later answer left_is answers-are grown-is =
-    ap (λ t. t ++ answer_lines after later) grown-is
+one_more-line text grown left after line answers later answer left_is answers_are grown_is =
+    ap (λ t. t ++ answer_lines after later) grown_is
     ∙ append_assoc text (answer_line line answer) (answer_lines after later)
-    ∙ sym (ap (λ ls. text ++ answer_lines ls answers) left_is ∙ ap (λ given. text ++ answer_lines (line ∷ after) given) answers-are)
+    ∙ sym (ap (λ ls. text ++ answer_lines ls answers) left_is ∙ ap (λ given. text ++ answer_lines (line ∷ after) given) answers_are)

@@ -10,17 +10,17 @@ use Rattle.board.specs.declared.fault.BoardFault.{BoardFault}
 use Rattle.board.specs.declared.fault.BoardFault.TheVariants.{Plan}
 use Rattle.plan.proofs.Settled.{settled as placing}
 use Rattle.plan.specs.Placing.{CannotPlace, Places}
-use Rattle.plan.specs.declared.fault.PlanFault.TheVariants.{List as List-fault, NoFit}
+use Rattle.plan.specs.declared.fault.PlanFault.TheVariants.{List as OfList, NoFit}
 use Rattle.script.proofs.Said.{one_cost, one_list_of_calls, one-plan, one_sheet, one_start, one_test}
 use Rattle.script.specs.Day.{AfterHeadings, Boardless, Chosen, Day, Made, NoDay, NoStart, ReplayIsSettled, Unplaced, last_line, yes_at_cost}
 use Rattle.script.specs.Day.AfterHeadings.{played, refused}
-use Rattle.script.specs.Day.NoDay.{costly, no_start as not-started, unreadable}
+use Rattle.script.specs.Day.NoDay.{costly, no_start as not_started, unreadable}
 use Rattle.script.specs.Day.Replay.{headed, unheaded}
 use Rattle.script.specs.Opening.{Headed, Unheaded, line_at}
 use Rattle.script.specs.Opening.Unheaded.{no_fit, no_plan, no_sheet, no_start}
 use Rattle.script.specs.Texts.{answer_lines, not_understood_line, refused_line, set_up_line}
 use Rattle.script.specs.declared.headings.TestName.{TestName}
-use Rattle.sheet.specs.Spelling.{Entry as Sheet-entry}
+use Rattle.sheet.specs.Spelling.{Entry as SheetEntry}
 use Rattle.tasks.proofs.Settled.{settled as reading}
 use Rattle.tasks.specs.Reading.{Spells, tasks_said}
 use Rattle.tasks.specs.declared.record.TaskRecord.{TaskRecord}
@@ -69,42 +69,42 @@ module _ (lines : List (List ℕ)) where
   one_line (no_start p t s said fit none) (no_fit p' s' said' none') = absurd (none' t _ fit)
   one_line (no_start p t s said fit none) (no_start p' t' s' said' fit' none') = refl
 
-module _ (yes-to : List TaskRecord → TaskRecord → Type 0) (lanes : ℕ) (tasks : List TaskRecord) where
+module _ (yes_to : List TaskRecord → TaskRecord → Type 0) (lanes : ℕ) (tasks : List TaskRecord) where
   one_choice : (proposal : Option (List ℕ)) (plan plan' : List ℕ)
-      → Chosen yes-to lanes tasks proposal plan → Chosen yes-to lanes tasks proposal plan' → plan ≡ plan'
+      → Chosen yes_to lanes tasks proposal plan → Chosen yes_to lanes tasks proposal plan' → plan ≡ plan'
   one_choice (Some bytes) plan plan' a b = a ∙ sym b
-  one_choice None plan plan' a b = (placing yes-to lanes tasks).one_placing plan plan' a b
+  one_choice None plan plan' a b = (placing yes_to lanes tasks).one_placing plan plan' a b
 
-  never_placed : (fault : BoardFault) (plan : List ℕ) → Unplaced yes-to lanes tasks fault → Places yes-to lanes tasks plan → ⊥
+  never_placed : (fault : BoardFault) (plan : List ℕ) → Unplaced yes_to lanes tasks fault → Places yes_to lanes tasks plan → ⊥
   never_placed fault plan u places =
-      (placing yes-to lanes tasks).no_fault_placed u.room plan (NoFit u.task) u.cannot.2 u.cannot places
+      (placing yes_to lanes tasks).no_fault_placed u.room plan (NoFit u.task) u.cannot.2 u.cannot places
 
-  one-unplaced : (fault fault' : BoardFault) → Unplaced yes-to lanes tasks fault → Unplaced yes-to lanes tasks fault' → fault ≡ fault'
+  one-unplaced : (fault fault' : BoardFault) → Unplaced yes_to lanes tasks fault → Unplaced yes_to lanes tasks fault' → fault ≡ fault'
   one-unplaced fault fault' a b =
       let there = b.cannot in
-      let here : CannotPlace yes-to lanes tasks a.room (NoFit b.task) =
+      let here : CannotPlace yes_to lanes tasks a.room (NoFit b.task) =
       (there.0, there.1, a.cannot.2, there.3, there.4, there.5, there.6) in
       a.fault_is
-      ∙ ap Plan ((placing yes-to lanes tasks).one_place_fault a.room (NoFit a.task) (NoFit b.task) a.cannot here)
+      ∙ ap Plan ((placing yes_to lanes tasks).one_place_fault a.room (NoFit a.task) (NoFit b.task) a.cannot here)
       ∙ sym b.fault_is
 
   module _ (proposal : Option (List ℕ)) (start : ℕ) where
     one_boardless : (fault fault' : BoardFault)
-        → Boardless yes-to lanes tasks proposal start fault → Boardless yes-to lanes tasks proposal start fault' → fault ≡ fault'
+        → Boardless yes_to lanes tasks proposal start fault → Boardless yes_to lanes tasks proposal start fault' → fault ≡ fault'
     one_boardless fault fault' a b =
         let same = one_choice proposal b.plan a.plan b.chosen a.chosen in
-        let here = subst (λ (p : List ℕ). NoBoard yes-to lanes tasks p start fault') same b.no_board in
-        one_board_fault yes-to lanes tasks a.plan start fault fault' a.no_board here
+        let here = subst (λ (p : List ℕ). NoBoard yes_to lanes tasks p start fault') same b.no_board in
+        one_board_fault yes_to lanes tasks a.plan start fault fault' a.no_board here
 
     never_boardless : (fault : BoardFault) (calls : List Call) (answers : List Answer)
-        → Boardless yes-to lanes tasks proposal start fault → Made yes-to lanes tasks proposal start calls answers → ⊥
+        → Boardless yes_to lanes tasks proposal start fault → Made yes_to lanes tasks proposal start calls answers → ⊥
     never_boardless fault calls answers a made =
         let same = one_choice proposal a.plan made.plan a.chosen made.chosen in
-        let here = subst (λ (p : List ℕ). NoBoard yes-to lanes tasks p start fault) same a.no_board in
-        no_fault_no_refusal yes-to lanes tasks made.plan start fault made.promise.passed made.in_time here
+        let here = subst (λ (p : List ℕ). NoBoard yes_to lanes tasks p start fault) same a.no_board in
+        no_fault_no_refusal yes_to lanes tasks made.plan start fault made.promise.passed made.in_time here
 
     one_list_of_answers : (calls : List Call) (answers answers' : List Answer)
-        → Made yes-to lanes tasks proposal start calls answers → Made yes-to lanes tasks proposal start calls answers' → answers ≡ answers'
+        → Made yes_to lanes tasks proposal start calls answers → Made yes_to lanes tasks proposal start calls answers' → answers ≡ answers'
     one_list_of_answers calls answers answers' a b =
         let same = one_choice proposal a.plan b.plan a.chosen b.chosen in
         a.promise.answered
@@ -112,7 +112,7 @@ module _ (yes-to : List TaskRecord → TaskRecord → Type 0) (lanes : ℕ) (tas
         ∙ sym b.promise.answered
 
   one-no_start : (proposal : Option (List ℕ)) (start : ℕ) (fault fault' : BoardFault)
-      → NoStart yes-to lanes tasks proposal start fault → NoStart yes-to lanes tasks proposal start fault' → fault ≡ fault'
+      → NoStart yes_to lanes tasks proposal start fault → NoStart yes_to lanes tasks proposal start fault' → fault ≡ fault'
   one-no_start (Some bytes) start fault fault' a b = one_boardless (Some bytes) start fault fault' a b
   one-no_start None start fault fault' (inl a) (inl b) = one-unplaced fault fault' a b
   one-no_start None start fault fault' (inl a) (inr b) = absurd (never_placed fault b.plan a b.chosen)
@@ -120,34 +120,34 @@ module _ (yes-to : List TaskRecord → TaskRecord → Type 0) (lanes : ℕ) (tas
   one-no_start None start fault fault' (inr a) (inr b) = one_boardless None start fault fault' a b
 
   never_started : (proposal : Option (List ℕ)) (start : ℕ) (fault : BoardFault) (calls : List Call) (answers : List Answer)
-      → NoStart yes-to lanes tasks proposal start fault → Made yes-to lanes tasks proposal start calls answers → ⊥
+      → NoStart yes_to lanes tasks proposal start fault → Made yes_to lanes tasks proposal start calls answers → ⊥
   never_started (Some bytes) start fault calls answers a made = never_boardless (Some bytes) start fault calls answers a made
   never_started None start fault calls answers (inl a) made = never_placed fault made.plan a made.chosen
   never_started None start fault calls answers (inr a) made = never_boardless None start fault calls answers a made
 
 module _ (sheet : List ℕ) where
   -- what holds of the sheet's list holds of it as read again
-  same_list : (P : ℕ → ℕ → List Sheet-entry → Type 0) (grid grid' lanes lanes' : ℕ) (tasks tasks' : List Sheet-entry)
+  same_list : (P : ℕ → ℕ → List SheetEntry → Type 0) (grid grid' lanes lanes' : ℕ) (tasks tasks' : List SheetEntry)
       → Spells sheet grid lanes tasks → Spells sheet grid' lanes' tasks' → P grid' lanes' tasks' → P grid lanes tasks
   same_list P grid grid' lanes lanes' tasks tasks' s s' there =
       let same = reading.one_list sheet grid' grid lanes' lanes tasks' tasks s' s in
       subst (λ (g : ℕ). P g lanes tasks) same.0
-      (subst (λ (m : ℕ). P grid' m tasks) same.1 (subst (λ (ts : List Sheet-entry). P grid' lanes' ts) same.2 there))
+      (subst (λ (m : ℕ). P grid' m tasks) same.1 (subst (λ (ts : List SheetEntry). P grid' lanes' ts) same.2 there))
 
   module _ (proposal : Option (List ℕ)) (test : TestName) (cost start : ℕ) where
-    abbrev NotStarted : BoardFault → ℕ → ℕ → List Sheet-entry → Type 0
+    abbrev NotStarted : BoardFault → ℕ → ℕ → List SheetEntry → Type 0
     NotStarted fault grid lanes tasks = NoStart (yes_at_cost test cost grid) lanes (tasks_said tasks) proposal start fault
 
     one_fault : {fault fault' : BoardFault} → NoDay sheet proposal test cost start fault → NoDay sheet proposal test cost start fault' → fault ≡ fault'
-    one_fault (unreadable {fault = f} a) (unreadable {fault = g} b) = ap (λ x. Plan (List-fault x)) (reading.one_fault sheet f g a b)
+    one_fault (unreadable {fault = f} a) (unreadable {fault = g} b) = ap (λ x. Plan (OfList x)) (reading.one_fault sheet f g a b)
     one_fault (unreadable {fault = f} a) (costly s' over') = absurd (reading.never_both sheet _ _ _ f s' a)
-    one_fault (unreadable {fault = f} a) (not-started s' within' b) = absurd (reading.never_both sheet _ _ _ f s' a)
+    one_fault (unreadable {fault = f} a) (not_started s' within' b) = absurd (reading.never_both sheet _ _ _ f s' a)
     one_fault (costly s over) (unreadable {fault = g} b) = absurd (reading.never_both sheet _ _ _ g s b)
     one_fault (costly s over) (costly s' over') = refl
-    one_fault (costly s over) (not-started s' within' b) = absurd (over within')
-    one_fault (not-started s within a) (unreadable {fault = g} b) = absurd (reading.never_both sheet _ _ _ g s b)
-    one_fault (not-started s within a) (costly s' over') = absurd (over' within)
-    one_fault (not-started {grid = grid} {lanes = lanes} {tasks = tasks} {fault = f} s within a) (not-started {grid = grid'} {lanes = lanes'} {tasks = tasks'} {fault = g} s' within' b) =
+    one_fault (costly s over) (not_started s' within' b) = absurd (over within')
+    one_fault (not_started s within a) (unreadable {fault = g} b) = absurd (reading.never_both sheet _ _ _ g s b)
+    one_fault (not_started s within a) (costly s' over') = absurd (over' within)
+    one_fault (not_started {grid = grid} {lanes = lanes} {tasks = tasks} {fault = f} s within a) (not_started {grid = grid'} {lanes = lanes'} {tasks = tasks'} {fault = g} s' within' b) =
         one-no_start (yes_at_cost test cost grid) lanes (tasks_said tasks) proposal start f g a
         (same_list (NotStarted g) grid grid' lanes lanes' tasks tasks' s s' b)
 
@@ -155,7 +155,7 @@ module _ (sheet : List ℕ) where
         → NoDay sheet proposal test cost start fault → Day sheet proposal test cost start calls answers → ⊥
     never_both calls answers (unreadable {fault = f} a) day = reading.never_both sheet day.grid day.lanes day.tasks f day.spells a
     never_both calls answers (costly s over) day = over day.in_range
-    never_both calls answers (not-started {grid = grid} {lanes = lanes} {tasks = tasks} {fault = f} s within a) day =
+    never_both calls answers (not_started {grid = grid} {lanes = lanes} {tasks = tasks} {fault = f} s within a) day =
         never_started (yes_at_cost test cost day.grid) day.lanes (tasks_said day.tasks) proposal start f calls answers
         (same_list (NotStarted f) day.grid grid day.lanes lanes day.tasks tasks day.spells s a) day.made
 

@@ -11,7 +11,7 @@ use Rattle.board.specs.declared.fault.BoardFault.{BoardFault}
 use Rattle.board.specs.declared.fault.BoardFault.TheVariants.{Plan}
 use Rattle.fit.specs.Tests.{CostRange, EitherYes, ExactYes, LinearYes, SurchargeYes}
 use Rattle.plan.specs.Placing.{CannotPlace, Places}
-use Rattle.plan.specs.declared.fault.PlanFault.TheVariants.{List as List-fault, NoFit}
+use Rattle.plan.specs.declared.fault.PlanFault.TheVariants.{List as OfList, NoFit}
 use Rattle.script.specs.Calls.{CallsSaid}
 use Rattle.script.specs.Headings.{proposed}
 use Rattle.script.specs.Opening.{Headed, Unheaded}
@@ -19,7 +19,7 @@ use Rattle.script.specs.Texts.{answer_lines, not_understood_line, refused_line, 
 use Rattle.script.specs.declared.headings.TestName.{TestName}
 use Rattle.script.specs.declared.headings.TestName.TheVariants.{Linear, Exact, Either}
 use Rattle.script.specs.declared.opening.Headings.{Headings}
-use Rattle.sheet.specs.Spelling.{Entry as Sheet-entry}
+use Rattle.sheet.specs.Spelling.{Entry as SheetEntry}
 use Rattle.tasks.specs.Reading.{Spells, Unreadable, tasks_said}
 use Rattle.tasks.specs.declared.fault.ListFault.{ListFault}
 use Rattle.tasks.specs.declared.fault.ListFault.TheVariants.{OutOfRange}
@@ -36,25 +36,25 @@ yes_by_name Either grid = EitherYes (LinearYes grid) ExactYes
 abbrev pub yes_at_cost : TestName → ℕ → ℕ → List TaskRecord → TaskRecord → Type 0
 yes_at_cost test cost grid = SurchargeYes cost (yes_by_name test grid)
 
--- Below, `yes-to` is the fit test's set of questions with a yes, and the list has these tasks on so many lanes.
-module _ (yes-to : List TaskRecord → TaskRecord → Type 0) (lanes : ℕ) (tasks : List TaskRecord) where
+-- Below, `yes_to` is the fit test's set of questions with a yes, and the list has these tasks on so many lanes.
+module _ (yes_to : List TaskRecord → TaskRecord → Type 0) (lanes : ℕ) (tasks : List TaskRecord) where
   -- The plan of the day: the proposed one, or else the one by first fit.
   abbrev pub Chosen : Option (List ℕ) → List ℕ → Type 0
   Chosen (Some bytes) plan = plan ≡ bytes
-  Chosen None plan = Places yes-to lanes tasks plan
+  Chosen None plan = Places yes_to lanes tasks plan
 
   -- There is no placing by first fit.
   pub record Unplaced (fault : BoardFault) : Type 0 where
     pub room : List ℕ
     pub task : ℕ
-    pub cannot : CannotPlace yes-to lanes tasks room (NoFit task)
+    pub cannot : CannotPlace yes_to lanes tasks room (NoFit task)
     pub fault_is : fault ≡ Plan (NoFit task)
 
   -- The day's plan gives no board at this clock.
   pub record Boardless (proposal : Option (List ℕ)) (start : ℕ) (fault : BoardFault) : Type 0 where
     pub plan : List ℕ
     pub chosen : Chosen proposal plan
-    pub no_board : NoBoard yes-to lanes tasks plan start fault
+    pub no_board : NoBoard yes_to lanes tasks plan start fault
 
   -- Why the day has no board.
   abbrev pub NoStart : Option (List ℕ) → ℕ → BoardFault → Type 0
@@ -68,7 +68,7 @@ module _ (yes-to : List TaskRecord → TaskRecord → Type 0) (lanes : ℕ) (tas
     pub chosen : Chosen proposal plan
     pub in_time : start ≤ clock_end
     pub left : PlainBoard
-    pub promise : Promise yes-to lanes tasks plan start calls answers left
+    pub promise : Promise yes_to lanes tasks plan start calls answers left
 
   abbrev pub Played : Option (List ℕ) → ℕ → List Entry → Result (Unit {0}) BoardFault → List Entry → Type 0
   Played proposal start entries (Ok _) filled =
@@ -77,10 +77,10 @@ module _ (yes-to : List TaskRecord → TaskRecord → Type 0) (lanes : ℕ) (tas
 
 -- The same under a surcharge, whose cost has a range.
 abbrev pub Costed : (List TaskRecord → TaskRecord → Type 0) → ℕ → ℕ → List TaskRecord → Option (List ℕ) → ℕ → List Entry → Result (Unit {0}) BoardFault → List Entry → Type 0
-Costed yes-below cost lanes tasks proposal start entries (Ok u) filled =
-    CostRange cost × Played (SurchargeYes cost yes-below) lanes tasks proposal start entries (Ok u) filled
-Costed yes-below cost lanes tasks proposal start entries (Err fault) filled =
-    ((CostRange cost → ⊥) × (fault ≡ Plan (List-fault (OutOfRange SwitchCost)))) ⊎ (CostRange cost × NoStart (SurchargeYes cost yes-below) lanes tasks proposal start fault)
+Costed yes_below cost lanes tasks proposal start entries (Ok u) filled =
+    CostRange cost × Played (SurchargeYes cost yes_below) lanes tasks proposal start entries (Ok u) filled
+Costed yes_below cost lanes tasks proposal start entries (Err fault) filled =
+    ((CostRange cost → ⊥) × (fault ≡ Plan (OfList (OutOfRange SwitchCost)))) ⊎ (CostRange cost × NoStart (SurchargeYes cost yes_below) lanes tasks proposal start fault)
 
 -- The same under the test of a name.
 abbrev pub Named : TestName → ℕ → ℕ → ℕ → List TaskRecord → Option (List ℕ) → ℕ → List Entry → Result (Unit {0}) BoardFault → List Entry → Type 0
@@ -89,10 +89,10 @@ Named test cost grid lanes tasks proposal start entries r filled =
 
 -- Why no board is set up for the day: the sheet comes first, then the cost, then the plan and the clock.
 pub data NoDay (sheet : List ℕ) (proposal : Option (List ℕ)) (test : TestName) (cost start : ℕ) : BoardFault → Type 0 where
-  unreadable : {fault : ListFault} → Unreadable sheet fault → NoDay sheet proposal test cost start (Plan (List-fault fault))
-  costly : {grid lanes : ℕ} {tasks : List Sheet-entry} → Spells sheet grid lanes tasks → (CostRange cost → ⊥)
-      → NoDay sheet proposal test cost start (Plan (List-fault (OutOfRange SwitchCost)))
-  no_start : {grid lanes : ℕ} {tasks : List Sheet-entry} {fault : BoardFault} → Spells sheet grid lanes tasks → CostRange cost
+  unreadable : {fault : ListFault} → Unreadable sheet fault → NoDay sheet proposal test cost start (Plan (OfList fault))
+  costly : {grid lanes : ℕ} {tasks : List SheetEntry} → Spells sheet grid lanes tasks → (CostRange cost → ⊥)
+      → NoDay sheet proposal test cost start (Plan (OfList (OutOfRange SwitchCost)))
+  no_start : {grid lanes : ℕ} {tasks : List SheetEntry} {fault : BoardFault} → Spells sheet grid lanes tasks → CostRange cost
       → NoStart (yes_at_cost test cost grid) lanes (tasks_said tasks) proposal start fault
       → NoDay sheet proposal test cost start fault
 
@@ -100,7 +100,7 @@ pub data NoDay (sheet : List ℕ) (proposal : Option (List ℕ)) (test : TestNam
 pub record Day (sheet : List ℕ) (proposal : Option (List ℕ)) (test : TestName) (cost start : ℕ) (calls : List Call) (answers : List Answer) : Type 0 where
   pub grid : ℕ
   pub lanes : ℕ
-  pub tasks : List Sheet-entry
+  pub tasks : List SheetEntry
   pub spells : Spells sheet grid lanes tasks
   pub in_range : CostRange cost
   pub made : Made (yes_at_cost test cost grid) lanes (tasks_said tasks) proposal start calls answers

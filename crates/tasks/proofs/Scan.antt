@@ -50,8 +50,8 @@ begun bytes asked sheet list name opened is = record {
 -- The grid or the lane count is out of range.
 pub ranged : (bytes : List ℕ) (sheet : Reader) (grid lanes : ℕ) (fault : ListFault)
     → Opened bytes (Ok sheet) → grid ≡ sheet.grid → lanes ≡ sheet.lanes → NoList grid lanes fault → Unreadable bytes fault
-ranged bytes sheet grid lanes fault opened same-grid same-lanes none =
-    out_of_range opened.2 (subst (λ m. NoList sheet.grid m fault) same-lanes (subst (λ g. NoList g lanes fault) same-grid none))
+ranged bytes sheet grid lanes fault opened same_grid same_lanes none =
+    out_of_range opened.2 (subst (λ m. NoList sheet.grid m fault) same_lanes (subst (λ g. NoList g lanes fault) same_grid none))
 
 -- A record that was read leaves less to read.
 pub shorter : (sheet : Reader) (list : TaskList) (found : Option Part) (sheet' : Reader) (list' : TaskList) (e : Entry)
@@ -69,17 +69,17 @@ module _ (bytes : List ℕ) (asked : ℕ) (sheet : Reader) (list : TaskList) (na
   pub finished : unread sheet ≡ [] → Scanned bytes asked (Ok name) list
   finished none =
       let spells = subst (λ rest. Begins bytes u.grid u.lanes u.entries rest) none u.begins in
-      let at-grid = subst (λ g. Begins bytes g u.lanes u.entries []) (sym u.list_is.grid_is) spells in
-      let at-lanes = subst (λ m. Begins bytes list.grid m u.entries []) (sym u.list_is.lanes_are) at-grid in
-      (u.entries, at-lanes, u.list_is.tasks_are, u.name_met)
+      let at_grid = subst (λ g. Begins bytes g u.lanes u.entries []) (sym u.list_is.grid_is) spells in
+      let at_lanes = subst (λ m. Begins bytes list.grid m u.entries []) (sym u.list_is.lanes_are) at_grid in
+      (u.entries, at_lanes, u.list_is.tasks_are, u.name_met)
 
   -- the next record is refused
   pub refused : (fault : ListFault) → NoNextTask sheet.at list.grid (tasks_of list) (unread sheet) fault → Unreadable bytes fault
   refused fault none =
-      let at-entries = subst (λ a. NoNextTask a list.grid (tasks_of list) (unread sheet) fault) u.at-is none in
-      let at-grid = subst (λ g. NoNextTask (offset_after u.entries) g (tasks_of list) (unread sheet) fault) u.list_is.grid_is at-entries in
-      let at-tasks = subst (λ ts. NoNextTask (offset_after u.entries) u.grid ts (unread sheet) fault) u.list_is.tasks_are at-grid in
-      stops u.begins at-tasks
+      let at_entries = subst (λ a. NoNextTask a list.grid (tasks_of list) (unread sheet) fault) u.at-is none in
+      let at_grid = subst (λ g. NoNextTask (offset_after u.entries) g (tasks_of list) (unread sheet) fault) u.list_is.grid_is at_entries in
+      let at_tasks = subst (λ ts. NoNextTask (offset_after u.entries) u.grid ts (unread sheet) fault) u.list_is.tasks_are at_grid in
+      stops u.begins at_tasks
 
   module _ (found : Option Part) (sheet' : Reader) (list' : TaskList) (e : Entry) (j : Joined sheet list found sheet' list' e) where
     records_more : records_bytes u.entries ++ unread sheet ≡ records_bytes (u.entries ++ (e ∷ [])) ++ unread sheet'
@@ -124,14 +124,14 @@ module _ (bytes : List ℕ) (asked : ℕ) (sheet : Reader) (list : TaskList) (na
         }
 
     name_here : (name' : Option Part) → length u.entries ≡ asked → name' ≡ found → NameOf bytes (u.entries ++ (e ∷ [])) asked name'
-    name_here name' now-asked same =
+    name_here name' now_asked same =
         record {
-          said = ap name_said same ∙ j.said ∙ ap (λ (x : Entry). x.name) (sym (get_or_push u.entries e no_entry asked now-asked));
+          said = ap name_said same ∙ j.said ∙ ap (λ (x : Entry). x.name) (sym (get_or_push u.entries e no_entry asked now_asked));
           at =
-              let front = take_at u.entries (e ∷ []) asked now-asked in
-              let at-found = subst (λ b. NameAt b (sheet.at + 13) found) u.bytes_are j.name_at in
-              let at-entries = subst (λ a. NameAt bytes (a + 13) found) u.at-is at-found in
-              subst (λ es. NameAt bytes (offset_after es + 13) name') (sym front) (subst (λ n. NameAt bytes (offset_after u.entries + 13) n) (sym same) at-entries);
+              let front = take_at u.entries (e ∷ []) asked now_asked in
+              let at_found = subst (λ b. NameAt b (sheet.at + 13) found) u.bytes_are j.name_at in
+              let at_entries = subst (λ a. NameAt bytes (a + 13) found) u.at-is at_found in
+              subst (λ es. NameAt bytes (offset_after es + 13) name') (sym front) (subst (λ n. NameAt bytes (offset_after u.entries + 13) n) (sym same) at_entries);
         }
 
     -- one record more
@@ -153,5 +153,5 @@ module _ (bytes : List ℕ) (asked : ℕ) (sheet : Reader) (list : TaskList) (na
         go (inr new) inside =
             let long = length_push u.entries e in
             let n = count in
-            let now-asked : length u.entries ≡ asked = omega arith in
-            name_here name' now-asked (here (omega arith))
+            let now_asked : length u.entries ≡ asked = omega arith in
+            name_here name' now_asked (here (omega arith))

@@ -76,8 +76,8 @@ module _ (bytes : List ℕ) where
         go : Agree grid es es' rest rest' → fault ≡ fault'
         go (inl both) =
             let at_rest = subst (λ r. NoNextTask (offset_after es') grid (tasks_said es') r fault') (sym both.1) s'.1 in
-            let at-entries = subst (λ xs. NoNextTask (offset_after xs) grid (tasks_said xs) rest fault') (sym both.0) at_rest in
-            next_fault_once grid (offset_after es) (tasks_said es) rest fault fault' s.1 at-entries
+            let at_entries = subst (λ xs. NoNextTask (offset_after xs) grid (tasks_said xs) rest fault') (sym both.0) at_rest in
+            next_fault_once grid (offset_after es) (tasks_said es) rest fault fault' s.1 at_entries
         go (inr (inl on)) = absurd (goes_on_faultless grid (offset_after es) es es' rest fault on s'.0.few s.1)
         go (inr (inr on)) = absurd (goes_on_faultless grid (offset_after es') es' es rest' fault' on s.0.few s'.1)
 

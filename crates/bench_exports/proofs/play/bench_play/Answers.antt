@@ -11,11 +11,11 @@ use Rattle.bench_exports.specs.declared.play.Line.{Line}
 use Rattle.bench_exports.proofs.play.bench_play.Goals as goal
 
 -- The test is over the list's grid, and the board was new.
-from-new :
+from_new :
     (grid over : ℕ) → over ≡ grid → (sheet plan : List ℕ) (start : ℕ) (b₀ : PlainBoard) → b₀ ≡ new_board [] 1 [] 0
     → (r : Result (Unit {0}) BoardFault) (placed : List ℕ) (b : PlainBoard)
     → Prepared (EitherYes (LinearYes over) ExactYes) sheet plan start b₀ r placed b → ReadiedFromNew grid sheet plan start r placed b
-from-new grid over same sheet plan start b₀ new r placed b p =
+from_new grid over same sheet plan start b₀ new r placed b p =
     subst (λ (g : ℕ). Prepared (EitherYes (LinearYes g) ExactYes) sheet plan start (new_board [] 1 [] 0) r placed b) same
     (subst (λ (from : PlainBoard). Prepared (EitherYes (LinearYes over) ExactYes) sheet plan start from r placed b) new p)
 
@@ -38,7 +38,7 @@ returns-in-Err-prepare c =
     let fault = c.in-Err-prepare.fault in
     subst (λ (code : ℕ). Played sheet plan c.args.start lines code placed lines) (sym c.number-in-Err-prepare.ensures)
     (refused list.grid list.lanes read.0 fault placed b read.1
-    (from-new list.grid c.either_over-test.result.first.grid (c.either_over-test.ensures ∙ c.grid.ensures) sheet plan c.args.start
+    (from_new list.grid c.either_over-test.result.first.grid (c.either_over-test.ensures ∙ c.grid.ensures) sheet plan c.args.start
     (view c.new-board.result) c.new-board.ensures (Err fault) placed b c.in-Err-prepare.ensures))
 
 pub returns : goal.returns
@@ -52,5 +52,5 @@ returns c =
     let b = view c.prepare.new.board in
     subst (λ (after : List Line). Played sheet plan c.args.start lines 0 placed after) (sym c.play.ensures)
     (answered list.grid list.lanes read.0 placed b read.1
-    (from-new list.grid c.either_over-test.result.first.grid (c.either_over-test.ensures ∙ c.grid.ensures) sheet plan c.args.start
+    (from_new list.grid c.either_over-test.result.first.grid (c.either_over-test.ensures ∙ c.grid.ensures) sheet plan c.args.start
     (view c.new-board.result) c.new-board.ensures (Ok tt) placed b c.in_default-prepare.ensures))

@@ -68,17 +68,17 @@ loop-turn-preserved g c =
     let lane = c.in-Some.lane in
     let rows = c.loop-turn.rows.lanes in
     let records = c.records-records.result.now in
-    let yes-to = g.F.FitTest.yes c.args.test.now in
+    let yes_to = g.F.FitTest.yes c.args.test.now in
     let here : k < length tasks = omega arith in
     let at = number_in_turn tasks c.numbers_in_order-turns.result c.numbers_in_order-turns.ensures.ordered k here in
-    let found : (lane ≡ c.seek.lane) × (lane < list.lanes) × yes-to (row_on rows lane) (record_of records number) =
+    let found : (lane ≡ c.seek.lane) × (lane < list.lanes) × yes_to (row_on rows lane) (record_of records number) =
     elim c.if-lane-lanes.branch [
       | then-lane-lanes w ↦ absurd (found_or_not {o = c.if-lane-lanes.first} c.in-Some.is w.first-is)
       | else-lane-lanes+then-takes w ↦
           let same : lane ≡ c.seek.lane = one_found {o = c.if-lane-lanes.first} c.in-Some.is w.first-is in (
             same,
             omega (arith, same, w.if-lane-lanes.false, c.lanes-lanes.ensures),
-            subst (λ (l : ℕ). yes-to (row_on rows l) (record_of records number)) (sym same) (w.takes.ensures.0 w.if-takes.true),
+            subst (λ (l : ℕ). yes_to (row_on rows l) (record_of records number)) (sym same) (w.takes.ensures.0 w.if-takes.true),
           )
     ] in
     let four : lane < 4 = omega (arith, found.1, list.lane_range) in
@@ -89,16 +89,16 @@ loop-turn-preserved g c =
     let plan' = set plan number lane in
     let alike =
     turned_alike tasks plan k rows turned plan'
-    (writing_agrees yes-to list.lanes tasks plan k number lane here at.0) in (
+    (writing_agrees yes_to list.lanes tasks plan k number lane here at.0) in (
       length-set plan number lane ∙ c.loop-turn.invariant.0,
       turned_next tasks plan' k rows alike number lane c.put.new.self.lanes here at.0
           c.loop-turn.rows.four four (get_or-set_same plan number lane 0 inside) joined,
-      begun-next yes-to list.lanes tasks plan k number lane here at.0 inside found.1 c.loop-turn.invariant.2
-          (asked_takes tasks plan k rows turned yes-to list.lanes records c.records-records.ensures
+      begun-next yes_to list.lanes tasks plan k number lane here at.0 inside found.1 c.loop-turn.invariant.2
+          (asked_takes tasks plan k rows turned yes_to list.lanes records c.records-records.ensures
           number at.0 lane four found.2)
           (λ lower l takes.
           c.seek.invariant.1 lower (omega (arith, found.0))
-          (takes_asked tasks plan k rows turned yes-to list.lanes records c.records-records.ensures
+          (takes_asked tasks plan k rows turned yes_to list.lanes records c.records-records.ensures
           number at.0 lower (omega arith) takes)),
     )
 

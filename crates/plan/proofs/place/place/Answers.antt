@@ -19,10 +19,10 @@ pub returns : goal.returns
 returns g c =
     let list = c.args.list.now in
     let tasks = tasks_of list in
-    let yes-to = g.F.FitTest.yes c.args.test.now in
+    let yes_to = g.F.FitTest.yes c.args.test.now in
     let lanes = c.in_ok-lanes.lanes in
     let room : length tasks ≤ length lanes = omega (arith, length-tasks list, c.in_ok-lanes.ensures.0) in
     let whole : length tasks ≡ c.len-count.result - 0 = omega arith in
-    subst (λ (plan : List ℕ). Places yes-to list.lanes tasks plan × Passes yes-to list.lanes tasks plan)
+    subst (λ (plan : List ℕ). Places yes_to list.lanes tasks plan × Passes yes_to list.lanes tasks plan)
     (ap (λ (n : ℕ). take n lanes) whole ∙ sym c.copy_from_slice.ensures.after)
-    (placed_front yes-to list.lanes tasks lanes room c.in_ok-lanes.ensures.1)
+    (placed_front yes_to list.lanes tasks lanes room c.in_ok-lanes.ensures.1)

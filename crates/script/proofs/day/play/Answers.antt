@@ -8,9 +8,9 @@ use Rattle.script.proofs.day.play.Goals as goal
 
 pub returns-in_ok-place-in-Auto : goal.returns-in_ok-place-in-Auto
 returns-in_ok-place-in-Auto g c =
-    let yes-to = g.F.FitTest.yes c.args.test.now in
+    let yes_to = g.F.FitTest.yes c.args.test.now in
     let list = c.args.list.now in
     let room = c.place.new.plan in
-    performed yes-to list.lanes (tasks_of list) (proposed c.args.plan.now) room c.args.start (view c.new-board.result) c.args.entries.now c.perform.result (view c.perform.new.board) c.perform.new.entries
-    (subst (λ p. Chosen yes-to list.lanes (tasks_of list) (proposed p) room) (sym c.in-Auto.is) c.in_ok-place-in-Auto.ensures.0)
+    performed yes_to list.lanes (tasks_of list) (proposed c.args.plan.now) room c.args.start (view c.new-board.result) c.args.entries.now c.perform.result (view c.perform.new.board) c.perform.new.entries
+    (subst (λ p. Chosen yes_to list.lanes (tasks_of list) (proposed p) room) (sym c.in-Auto.is) c.in_ok-place-in-Auto.ensures.0)
     c.perform.ensures
