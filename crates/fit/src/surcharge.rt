@@ -111,6 +111,7 @@ fn raised_row(cost: u32, row: &[TaskRecord]) -> [TaskRecord; LONGEST_ROW]
 impl<T: FitTest> FitTest for Surcharge<T> {
     ghost yes = { λ test row asked. SurchargeYes test.cost (T.FitTest.yes test.below) row asked };
 
+    // What can be late can be late with larger works, and the raised task cannot be late.
     ghost safe = { λ test row asked h.
         let dear = map (raised test.cost) row ++ (raised test.cost asked ∷ []) in
         safe_with_larger_works (row ++ (asked ∷ [])) dear (length row) (raised_lane test.cost row asked)

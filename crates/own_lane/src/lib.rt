@@ -2,12 +2,7 @@
 #![tactic(auto)]
 
 ghost use Rattle.own_lane.specs.OwnLane.{OwnLaneYes};
-ghost use Rattle.std.specs.Prelude.{List, [], ◌∷◌, ◌++◌, length};
-ghost use Rattle.std.proofs.Common.{subst, sym};
-ghost use Rattle.fit.specs.Lane.{SafeTask};
-ghost use Rattle.std.proofs.lemmas.List.{nil_from_length};
-ghost use Rattle.tasks.specs.declared.record.TaskRecord.{TaskRecord};
-ghost use Rattle.own_lane.specs.OwnLaneFitLemmas.{alone_is_safe};
+ghost use Rattle.own_lane.specs.OwnLaneFitLemmas.{own_lane_safe};
 
 use fit::question::FitTest;
 use tasks::record::TaskRecord;
@@ -23,7 +18,7 @@ pub struct OwnLane;
 impl FitTest for OwnLane {
     ghost yes = { λ test row asked. OwnLaneYes row asked };
 
-    ghost safe = { λ test row asked h. subst (λ (r : List TaskRecord). SafeTask (r ++ (asked ∷ [])) (length r)) (sym (nil_from_length row h.nobody)) (alone_is_safe asked h.bounded) };
+    ghost safe = { λ test row asked h. own_lane_safe row asked h };
 
     fn fits(&self, row: &[TaskRecord], asked: TaskRecord) -> bool {
         row.is_empty() && asked.bounded(WIDEST_GRID)
