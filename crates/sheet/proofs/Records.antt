@@ -5,7 +5,7 @@ use Rattle.std.proofs.lemmas.List.Edits.{length-between}
 use Rattle.std.proofs.lemmas.List.{drop_more, drop-drop, length-drop, take-append-drop}
 use Rattle.sheet.specs.Refusals.{BadLength, BadNameByte, name_bytes}
 use Rattle.sheet.specs.Spelling.{Entry, Printable, entry_bytes, four_bytes}
-use Rattle.sheet.specs.Steps.{FirstUnprintable}
+use Rattle.sheet.proofs.Printing.{FirstUnprintable}
 
 module _ (bytes : List ℕ) (at : ℕ) (inside : at < length bytes) where
   front : drop at bytes ≡ get_or bytes at 0 ∷ drop (at + 1) bytes

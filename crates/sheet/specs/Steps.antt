@@ -1,15 +1,13 @@
 -- What the steps of reading one record give.
-use Rattle.std.specs.Prelude.{◌≡◌, ℕ, ◌+◌, ◌<◌, List, ◌++◌, length, take, drop, Some, None, Option, slice_index}
-use Rattle.std.specs.List.{between, AllByRecursion}
+use Rattle.std.specs.Prelude.{◌≡◌, ℕ, ◌+◌, Bool, ◌||◌, List, ◌++◌, drop, nat_lt}
+use Rattle.std.specs.List.{between}
 use Rattle.sheet.specs.Reading.{NameAt, name_said}
-use Rattle.sheet.specs.Spelling.{Printable, four_bytes}
+use Rattle.sheet.specs.Spelling.{four_bytes}
 use Rattle.sheet.specs.declared.part.SheetRecord.{SheetRecord}
 
--- The first byte that is not printable, or none.
-abbrev pub FirstUnprintable : List ℕ → Option ℕ → Type 0
-FirstUnprintable name None = AllByRecursion Printable name
-FirstUnprintable name (Some i) =
-    (i < length name) × AllByRecursion Printable (take i name) × (Printable (slice_index name i) → ⊥)
+-- Whether no name may hold the byte: it is not printable.
+abbrev pub unprintable : ℕ → Bool
+unprintable byte = nat_lt byte 0x21 || nat_lt 0x7e byte
 
 -- The record whose length byte stands at `at` and whose last byte stands before `end`.
 pub record RecordAt (bytes : List ℕ) (at end : ℕ) (r : SheetRecord) : Type 0 where

@@ -3,7 +3,7 @@ ghost use Rattle.std.specs.Prelude.{◌≡◌};
 ghost use Rattle.sheet.specs.Codes.{layer, number, place};
 
 // The layers of the box, the lowest first. A fault belongs to one of them.
-#[derive(Clone, Copy)]
+#[derive(Clone, Copy, Debug, PartialEq, Eq)]
 pub enum Layer {
     Sheet,
     List,
@@ -12,7 +12,7 @@ pub enum Layer {
 }
 
 // Why bytes are no sheet. `Codes` in specs/ gives each case its number and its place.
-#[derive(Clone, Copy)]
+#[derive(Clone, Copy, Debug, PartialEq, Eq)]
 pub enum SheetFault {
     // Fewer bytes than a sheet has, or than its length says: the bytes present.
     Short(usize),

@@ -4,3 +4,4 @@
 pub mod fault;
 pub mod part;
 pub mod reader;
+mod steps;

@@ -1,11 +1,9 @@
 // A reader over a sheet's bytes: it opens the sheet and reads its records one after the other.
-ghost use Rattle.std.specs.Prelude.{◌≡◌, ◌+◌, ◌≤◌, [], ◌++◌, length, drop, Decides};
-ghost use Rattle.sheet.specs.Reading.{Opened, Next, unread};
-ghost use Rattle.sheet.specs.Spelling.{four_bytes};
-ghost use Rattle.sheet.specs.Steps.{FirstUnprintable, RecordAt};
+ghost use Rattle.std.specs.Prelude.{◌≡◌, ◌≤◌, [], length, Decides};
 
 use crate::fault::SheetFault;
-use crate::part::{Part, SheetRecord};
+use crate::part::SheetRecord;
+use crate::steps::{first_unprintable, number_at, record_at};
 
 const VERSION: u8 = 1;
 
@@ -14,49 +12,6 @@ const FEWEST: usize = 12;
 
 const MOST: usize = 32;
 
-// The number that the four bytes at `at` spell.
-fn number_at(bytes: &[u8], at: usize) -> u32
-    requires { at + 4 ≤ length bytes.now }
-    ensures { drop at bytes.now ≡ four_bytes result ++ drop (at + 4) bytes.now }
-{
-    u32::from_be_bytes([bytes[at], bytes[at + 1], bytes[at + 2], bytes[at + 3]])
-}
-
-// The index of the first byte that no name may hold.
-fn first_unprintable(name: &[u8]) -> Option<usize>
-    ensures { FirstUnprintable name.now result }
-{
-    for (i, byte) in name.iter().enumerate() {
-        if *byte < 0x21 || *byte > 0x7e {
-            return Some(i);
-        }
-    }
-    None
-}
-
-// The record whose length byte stands at `at` and whose last byte stands before `end`.
-fn record_at<'a>(bytes: &'a [u8], at: usize, end: usize) -> SheetRecord<'a>
-    requires long { at + 13 ≤ end }
-    requires within { end ≤ length bytes.now }
-    ensures { RecordAt bytes.now at end result }
-{
-    let place = at + 13;
-    let name = if place < end {
-        Some(Part {
-            bytes: &bytes[place..end],
-            place,
-        })
-    } else {
-        None
-    };
-    SheetRecord {
-        work: number_at(bytes, at + 1),
-        limit: number_at(bytes, at + 5),
-        gap: number_at(bytes, at + 9),
-        name,
-    }
-}
-
 // The sheet's bytes and how far they were read: `at` is the offset of the next record.
 #[derive(Clone, Copy)]
 pub struct Reader<'a> {
@@ -64,9 +19,12 @@ pub struct Reader<'a> {
     at: usize,
     grid: u32,
     lanes: u8,
+    ghost within: { at ≤ length bytes.now },
 }
 
 impl<'a> Reader<'a> {
+    ghost use Rattle.sheet.specs.Reading.{Opened, Next, unread};
+
     // A reader at the sheet's first record, or why the bytes are no sheet.
     pub fn open(bytes: &'a [u8]) -> Result<Reader<'a>, SheetFault>
         ensures { Opened bytes.now result }

@@ -1,7 +1,8 @@
-use Rattle.std.proofs.Common.{◌-◌, ◌<◌, ◌≤◌, length, refl, inl, inr, arith, rules}
+use Rattle.std.proofs.Common.{◌-◌, ◌<◌, ◌≤◌, length, Some, None, refl, inl, inr, arith, rules}
 use Rattle.std.proofs.lemmas.List.{drop_all}
 use Rattle.sheet.proofs.Records.{bad-length, bad-name, name-long, name_prints, entry_there}
 use Rattle.sheet.specs.Reading.{entry_said}
+use Rattle.sheet.proofs.Printing.{first_unprintable}
 use Rattle.sheet.proofs.reader.Reader.next.Goals as goal
 use Rattle.sheet.proofs.reader.Reader.next.Goals.{then-count-lt-FEWEST-via-then-count-lt-FEWEST, then-count-lt-FEWEST-via-else-count-lt-FEWEST+then-count-gt-MOST, then-count-lt-FEWEST-via-else-count-lt-FEWEST+else-count-gt-MOST+then-bytes-at}
 
@@ -26,7 +27,7 @@ returns-then-count-lt-FEWEST c =
 
 pub returns-in-Some : goal.returns-in-Some
 returns-in-Some c =
-    ((c.in-Some.i, bad-name c.args.self.now.bytes.now c.args.self.now.at c.if-at-bytes.false c.from-count.result c.from-count.ensures (omega arith) (omega arith) (omega arith) c.in-Some.i c.in-Some.ensures, omega arith), refl)
+    ((c.in-Some.i, bad-name c.args.self.now.bytes.now c.args.self.now.at c.if-at-bytes.false c.from-count.result c.from-count.ensures (omega arith) (omega arith) (omega arith) c.in-Some.i (first_unprintable _ (Some c.in-Some.i) c.in-Some.ensures), omega arith), refl)
 
 pub returns : goal.returns
 returns c =
@@ -43,7 +44,7 @@ returns c =
       r.name_at,
       record {
         spelled = entry_there bytes at inside n c.from-count.ensures few many past e r.name r.work r.limit r.gap;
-        spellable = record { work_fits = search rules; limit_fits = search rules; gap_fits = search rules; name_fits = omega arith; name_prints = name_prints bytes at inside n c.from-count.ensures few many past e r.name c.in_default.ensures };
+        spellable = record { work_fits = search rules; limit_fits = search rules; gap_fits = search rules; name_fits = omega arith; name_prints = name_prints bytes at inside n c.from-count.ensures few many past e r.name (first_unprintable _ None c.in_default.ensures) };
         at = omega arith;
         bytes = refl;
         grid = refl;

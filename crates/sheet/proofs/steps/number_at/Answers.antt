@@ -1,6 +1,6 @@
 use Rattle.std.proofs.Common.{rules}
 use Rattle.sheet.proofs.Numbers.{four_front}
-use Rattle.sheet.proofs.reader.number_at.Goals as goal
+use Rattle.sheet.proofs.steps.number_at.Goals as goal
 
 pub returns : goal.returns
 returns c =
