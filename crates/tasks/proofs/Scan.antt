@@ -1,5 +1,5 @@
 -- Reading record after record: what is known on the way, and that it comes to the list that the bytes spell.
-use Rattle.std.proofs.Common.{◌≡◌, ℕ, ◌+◌, ◌<◌, ◌≤◌, ◌≢◌, ◌⊎◌, List, [], ◌∷◌, ◌++◌, length, take, Ok, Option, sym, ap, ◌∙◌, subst, inl, inr, append_assoc, arith}
+use Rattle.std.proofs.Common.{◌≡◌, ℕ, ◌+◌, ◌<◌, ◌≤◌, ◌≢◌, ◌⊎◌, List, [], ◌∷◌, ◌++◌, length, take, Ok, Some, None, Option, IfSome, sym, refl, ap, ◌∙◌, subst, inl, inr, append_assoc, arith}
 use Rattle.sheet.specs.Reading.{NameAt, Opened, name_said, unread}
 use Rattle.sheet.specs.Spelling.{Entry, Frame, Spellable, entry_bytes, records_bytes}
 use Rattle.sheet.specs.declared.part.Part.{Part}
@@ -16,7 +16,7 @@ use Rattle.tasks.specs.declared.fault.ListFault.{ListFault}
 use Rattle.tasks.specs.declared.list.TaskList.{TaskList}
 
 -- The entries that were read so far, the list that they make, and the name that was asked for, once it was met.
-pub record UnderWay (bytes : List ℕ) (asked : ℕ) (sheet : Reader) (list : TaskList) (name : Option Part) : Type 0 where
+pub record UnderWay (bytes : List ℕ) (asked : Option ℕ) (sheet : Reader) (list : TaskList) (name : Option Part) : Type 0 where
   pub grid : ℕ
   pub lanes : ℕ
   pub entries : List Entry
@@ -24,10 +24,15 @@ pub record UnderWay (bytes : List ℕ) (asked : ℕ) (sheet : Reader) (list : Ta
   pub list_is : IsList list grid lanes (tasks_said entries)
   pub at-is : sheet.at ≡ offset_after entries
   pub bytes_are : sheet.bytes.now ≡ bytes
-  pub name_met : asked < length entries → NameOf bytes entries asked name
+  pub name_met : IfSome asked (λ number. number < length entries → NameOf bytes entries number name)
+
+-- What holds of the asked number.
+if_asked : (asked : Option ℕ) (P : ℕ → Type 0) → ((number : ℕ) → asked ≡ Some number → P number) → IfSome asked P
+if_asked None P h = tt
+if_asked (Some number) P h = h number refl
 
 -- At the first record.
-pub begun : (bytes : List ℕ) (asked : ℕ) (sheet : Reader) (list : TaskList) (name : Option Part)
+pub begun : (bytes : List ℕ) (asked : Option ℕ) (sheet : Reader) (list : TaskList) (name : Option Part)
     → Opened bytes (Ok sheet) → IsList list sheet.grid sheet.lanes [] → UnderWay bytes asked sheet list name
 begun bytes asked sheet list name opened is = record {
   grid = sheet.grid;
@@ -44,7 +49,7 @@ begun bytes asked sheet list name opened is = record {
   list_is = is;
   at-is = opened.1;
   bytes_are = opened.0;
-  name_met = λ none. absurd (omega arith);
+  name_met = if_asked asked _ (λ number is none. absurd (omega arith));
 }
 
 -- The grid or the lane count is out of range.
@@ -61,12 +66,12 @@ shorter sheet list found sheet' list' e j =
     let parts = length-append (entry_bytes e) (unread sheet') in
     omega arith
 
-module _ (bytes : List ℕ) (asked : ℕ) (sheet : Reader) (list : TaskList) (name : Option Part) (u : UnderWay bytes asked sheet list name) where
+module _ (bytes : List ℕ) (asked : Option ℕ) (sheet : Reader) (list : TaskList) (name : Option Part) (u : UnderWay bytes asked sheet list name) where
   count : length (tasks_of list) ≡ length u.entries
   count = ap length u.list_is.tasks_are ∙ length-map u.entries numbers_said
 
   -- every record was read
-  pub finished : unread sheet ≡ [] → Scanned bytes asked (Ok name) list
+  pub finished : unread sheet ≡ [] → Scanned bytes asked (Ok (list, name))
   finished none =
       let spells = subst (λ rest. Begins bytes u.grid u.lanes u.entries rest) none u.begins in
       let at_grid = subst (λ g. Begins bytes g u.lanes u.entries []) (sym u.list_is.grid_is) spells in
@@ -113,29 +118,29 @@ module _ (bytes : List ℕ) (asked : ℕ) (sheet : Reader) (list : TaskList) (na
         let was = u.at-is in
         omega arith
 
-    name-before : (name' : Option Part) → asked < length u.entries → name' ≡ name → NameOf bytes (u.entries ++ (e ∷ [])) asked name'
-    name-before name' old same =
-        let was = u.name_met old in
+    name-before : (number : ℕ) (name' : Option Part) → asked ≡ Some number → number < length u.entries → name' ≡ name → NameOf bytes (u.entries ++ (e ∷ [])) number name'
+    name-before number name' is old same =
+        let was = subst (λ (o : Option ℕ). IfSome o (λ n. n < length u.entries → NameOf bytes u.entries n name)) is u.name_met old in
         record {
-          said = ap name_said same ∙ was.said ∙ ap (λ (x : Entry). x.name) (sym (get_or_append_left u.entries (e ∷ []) no_entry asked old));
+          said = ap name_said same ∙ was.said ∙ ap (λ (x : Entry). x.name) (sym (get_or_append_left u.entries (e ∷ []) no_entry number old));
           at =
-              let front = take-append-le asked u.entries (e ∷ []) (omega arith) in
-              subst (λ es. NameAt bytes (offset_after es + 13) name') (sym front) (subst (λ n. NameAt bytes (offset_after (take asked u.entries) + 13) n) (sym same) was.at);
+              let front = take-append-le number u.entries (e ∷ []) (omega arith) in
+              subst (λ es. NameAt bytes (offset_after es + 13) name') (sym front) (subst (λ n. NameAt bytes (offset_after (take number u.entries) + 13) n) (sym same) was.at);
         }
 
-    name_here : (name' : Option Part) → length u.entries ≡ asked → name' ≡ found → NameOf bytes (u.entries ++ (e ∷ [])) asked name'
-    name_here name' now_asked same =
+    name_here : (number : ℕ) (name' : Option Part) → length u.entries ≡ number → name' ≡ found → NameOf bytes (u.entries ++ (e ∷ [])) number name'
+    name_here number name' now_asked same =
         record {
-          said = ap name_said same ∙ j.said ∙ ap (λ (x : Entry). x.name) (sym (get_or_push u.entries e no_entry asked now_asked));
+          said = ap name_said same ∙ j.said ∙ ap (λ (x : Entry). x.name) (sym (get_or_push u.entries e no_entry number now_asked));
           at =
-              let front = take_at u.entries (e ∷ []) asked now_asked in
+              let front = take_at u.entries (e ∷ []) number now_asked in
               let at_found = subst (λ b. NameAt b (sheet.at + 13) found) u.bytes_are j.name_at in
               let at_entries = subst (λ a. NameAt bytes (a + 13) found) u.at-is at_found in
               subst (λ es. NameAt bytes (offset_after es + 13) name') (sym front) (subst (λ n. NameAt bytes (offset_after u.entries + 13) n) (sym same) at_entries);
         }
 
     -- one record more
-    pub went_on : (name' : Option Part) → (length (tasks_of list) ≡ asked → name' ≡ found) → (length (tasks_of list) ≢ asked → name' ≡ name)
+    pub went_on : (name' : Option Part) → (asked ≡ Some (length (tasks_of list)) → name' ≡ found) → (asked ≢ Some (length (tasks_of list)) → name' ≡ name)
         → UnderWay bytes asked sheet' list' name'
     went_on name' here elsewhere = record {
       grid = u.grid;
@@ -145,13 +150,14 @@ module _ (bytes : List ℕ) (asked : ℕ) (sheet : Reader) (list : TaskList) (na
       list_is = list_more;
       at-is = at_more;
       bytes_are = j.went_over.bytes ∙ u.bytes_are;
-      name_met = λ inside. go (cases_lt asked (length u.entries)) inside;
+      name_met = if_asked asked _ (λ number is. go number is (cases_lt number (length u.entries)));
     }
       where
-        go : (asked < length u.entries) ⊎ (length u.entries ≤ asked) → asked < length (u.entries ++ (e ∷ [])) → NameOf bytes (u.entries ++ (e ∷ [])) asked name'
-        go (inl old) inside = name-before name' old (elsewhere (λ same. let n = count in omega arith))
-        go (inr new) inside =
+        go : (number : ℕ) → asked ≡ Some number → (number < length u.entries) ⊎ (length u.entries ≤ number) → number < length (u.entries ++ (e ∷ []))
+            → NameOf bytes (u.entries ++ (e ∷ [])) number name'
+        go number is (inl old) inside = name-before number name' is old (elsewhere (λ same. let n = count in let m : number ≡ length (tasks_of list) = cc in absurd (omega arith)))
+        go number is (inr new) inside =
             let long = length_push u.entries e in
             let n = count in
-            let now_asked : length u.entries ≡ asked = omega arith in
-            name_here name' now_asked (here (omega arith))
+            let now_asked : length u.entries ≡ number = omega arith in
+            name_here number name' now_asked (here (is ∙ ap Some (sym now_asked ∙ sym n)))

@@ -1,5 +1,5 @@
 -- What the steps of reading a list give.
-use Rattle.std.specs.Prelude.{◌≡◌, ℕ, ◌+◌, ◌<◌, List, [], ◌∷◌, ◌++◌, length, Ok, Err, Option, Result}
+use Rattle.std.specs.Prelude.{◌≡◌, ℕ, ◌+◌, ◌<◌, List, [], ◌∷◌, ◌++◌, length, Ok, Err, Option, Result, IfSome}
 use Rattle.sheet.specs.Reading.{NameAt, WentOver, name_said, unread}
 use Rattle.sheet.specs.Spelling.{Entry}
 use Rattle.sheet.specs.declared.part.Part.{Part}
@@ -23,8 +23,8 @@ abbrev pub Taken : Reader → TaskList → Result (Option Part) ListFault → Re
 Taken sheet list (Ok name) sheet' list' = (e : Entry) × Joined sheet list name sheet' list' e
 Taken sheet list (Err fault) sheet' list' = NoNextTask sheet.at list.grid (tasks_of list) (unread sheet) fault
 
--- A list was filled from the bytes, and the name of the asked task found.
-abbrev pub Scanned : List ℕ → ℕ → Result (Option Part) ListFault → TaskList → Type 0
-Scanned bytes asked (Ok name) list =
-    (entries : List Entry) × Spells bytes list.grid list.lanes entries × (tasks_of list ≡ tasks_said entries) × (asked < length entries → NameOf bytes entries asked name)
-Scanned bytes asked (Err fault) list = Unreadable bytes fault
+-- The list was read from the bytes, and with it the name of the asked task, if one was asked for and is there.
+abbrev pub Scanned : List ℕ → Option ℕ → Result (TaskList × Option Part) ListFault → Type 0
+Scanned bytes asked (Ok found) =
+    (entries : List Entry) × Spells bytes found.0.grid found.0.lanes entries × (tasks_of found.0 ≡ tasks_said entries) × IfSome asked (λ number. number < length entries → NameOf bytes entries number found.1)
+Scanned bytes asked (Err fault) = Unreadable bytes fault

@@ -6,7 +6,7 @@ ghost use Rattle.tasks.specs.declared.fault.ListFault.TheVariants.{Sheet};
 use sheet::fault::{Layer, SheetFault};
 
 // The settings that have a range: a list's grid and lane count, and a surcharge's switch cost.
-#[derive(Clone, Copy)]
+#[derive(Clone, Copy, Debug, PartialEq, Eq)]
 pub enum Setting {
     Grid,
     Lanes,
@@ -14,7 +14,7 @@ pub enum Setting {
 }
 
 // Why there is no such list. `Codes` in specs/ gives each case its number and its place.
-#[derive(Clone, Copy)]
+#[derive(Clone, Copy, Debug, PartialEq, Eq)]
 pub enum ListFault {
     // A fault of the sheet layer.
     Sheet(SheetFault),

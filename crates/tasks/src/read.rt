@@ -7,7 +7,6 @@ ghost use Rattle.tasks.specs.Steps.{Scanned, Taken};
 
 use crate::fault::ListFault;
 use crate::list::TaskList;
-use crate::record::TaskRecord;
 use crate::table::MOST_TASKS;
 use sheet::fault::SheetFault;
 use sheet::part::Part;
@@ -27,33 +26,29 @@ fn take_record<'a>(
     let Some(found) = sheet.next()? else {
         return Ok(None);
     };
-    list.add(TaskRecord {
-        work: found.work,
-        limit: found.limit,
-        gap: found.gap,
-    })?;
+    list.add(found.into())?;
     Ok(found.name)
 }
 
-// Fills the list from the sheet, and hands out the name of the task that was asked for.
+// The list that the sheet spells, and the name of the task that was asked for, if one was.
 fn scan<'a>(
     bytes: &'a [u8],
-    asked: usize,
-    list: &mut TaskList,
-) -> Result<Option<Part<'a>>, ListFault>
-    ensures { Scanned bytes.now asked result list.new }
+    asked: Option<usize>,
+) -> Result<(TaskList, Option<Part<'a>>), ListFault>
+    ensures { Scanned bytes.now asked result }
 {
     let mut sheet = Reader::open(bytes)?;
+    let mut list = TaskList::new();
     list.start(sheet.grid(), sheet.lanes())?;
     let mut name = None;
     while !sheet.at_end() {
         let number = list.len();
-        let found = take_record(&mut sheet, list)?;
-        if number == asked {
+        let found = take_record(&mut sheet, &mut list)?;
+        if asked == Some(number) {
             name = found;
         }
     }
-    Ok(name)
+    Ok((list, name))
 }
 
 impl TaskList {
@@ -61,9 +56,7 @@ impl TaskList {
     pub fn read(&mut self, bytes: &[u8]) -> Result<(), ListFault>
         ensures { ListRead bytes.now self.old result self.new }
     {
-        let mut fresh = TaskList::new();
-        // No task has this number, so no name is looked for.
-        scan(bytes, MOST_TASKS, &mut fresh)?;
+        let (fresh, _) = scan(bytes, None)?;
         *self = fresh;
         Ok(())
     }
@@ -73,8 +66,7 @@ impl TaskList {
 pub fn name<'a>(bytes: &'a [u8], task: usize) -> Result<Option<Part<'a>>, ListFault>
     ensures { NameRead bytes.now task result }
 {
-    let mut list = TaskList::new();
-    let name = scan(bytes, task, &mut list)?;
+    let (list, name) = scan(bytes, Some(task))?;
     if task >= list.len() {
         return Err(ListFault::Sheet(SheetFault::NoTask(task)));
     }

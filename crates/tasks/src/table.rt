@@ -8,14 +8,8 @@ mod work;
 // The most tasks a list may have.
 pub const MOST_TASKS: usize = 32;
 
-// What stands in a place that holds no task.
-const BLANK: TaskRecord = TaskRecord {
-    work: 0,
-    limit: 0,
-    gap: 0,
-};
-
 // The first `len` places hold the tasks, in the order of their numbers.
+// An array with a count and no `Vec`: the core uses no heap, and lists are `Copy`.
 #[derive(Clone, Copy)]
 pub struct Table {
     places: [TaskRecord; 32],

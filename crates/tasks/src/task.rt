@@ -8,7 +8,7 @@ use crate::record::TaskRecord;
 pub const WIDEST_GRID: u32 = 16_777_216;
 
 // No task exists that breaks a bound on work, limit or gap.
-#[derive(Clone, Copy)]
+#[derive(Clone, Copy, Debug, PartialEq, Eq)]
 pub struct Task {
     numbers: TaskRecord,
     ghost bounded: { Bounded widest_grid numbers },

@@ -29,18 +29,8 @@ fn task_is(
     let Some(task) = list.task(number) else {
         return Err(Fail::new("no such task"));
     };
-    let found = task.numbers();
-    assert_eq!(rt; found.work, wanted.work);
-    assert_eq!(rt; found.limit, wanted.limit);
-    assert_eq!(rt; found.gap, wanted.gap);
+    assert_eq!(rt; task.numbers(), wanted);
     Ok(())
-}
-
-fn accepted(answer: Result<(), ListFault>) -> Result<(), Fail> {
-    match answer {
-        Ok(()) => Ok(()),
-        Err(_) => Err(Fail::new("refused")),
-    }
 }
 
 fn refused(
@@ -62,8 +52,8 @@ fn refused(
 // The bytes are refused with this number and place, and the list stays as it was.
 fn unreadable(rt: &impl Abort, bytes: &[u8], number: u32, place: usize) -> Result<(), Fail> {
     let mut list = TaskList::new();
-    accepted(list.start(12, 3))?;
-    accepted(list.add(numbers(1, 2, 3)))?;
+    list.start(12, 3)?;
+    list.add(numbers(1, 2, 3))?;
     refused(rt, list.read(bytes), number, place)?;
     assert_eq!(rt; list.grid(), 12);
     assert_eq!(rt; list.lanes(), 3);
@@ -81,24 +71,19 @@ fn with_byte(at: usize, byte: u8) -> [u8; 58] {
 }
 
 fn named(rt: &impl Abort, task: usize, wanted: &[u8], place: usize) -> Result<(), Fail> {
-    match name(&OFFICE, task) {
-        Ok(Some(part)) => {
-            assert!(rt; part.bytes == wanted);
-            assert_eq!(rt; part.place, place);
-            Ok(())
-        }
-        Ok(None) => {
-            assert_eq!(rt; wanted.len(), 0);
-            Ok(())
-        },
-        Err(_) => Err(Fail::new("refused")),
-    }
+    let Some(part) = name(&OFFICE, task)? else {
+        assert_eq!(rt; wanted.len(), 0);
+        return Ok(());
+    };
+    assert!(rt; part.bytes == wanted);
+    assert_eq!(rt; part.place, place);
+    Ok(())
 }
 
 #[test]
 fn office_sheet_is_read(rt: HostRuntime) -> Result<(), Fail> {
     let mut list = TaskList::new();
-    accepted(list.read(&OFFICE))?;
+    list.read(&OFFICE)?;
     assert_eq!(rt; list.len(), 3);
     assert_eq!(rt; list.lanes(), 2);
     assert_eq!(rt; list.grid(), 60);
@@ -118,7 +103,7 @@ fn a_name_past_the_last_task_is_refused(rt: HostRuntime) -> Result<(), Fail> {
     };
     assert_eq!(rt; fault.number(), 13);
     assert_eq!(rt; fault.place(), 3);
-    assert!(rt; matches!(fault.layer(), Layer::Sheet));
+    assert_eq!(rt; fault.layer(), Layer::Sheet);
     let Err(earlier) = name(&with_byte(0, 2), 3) else {
         return Err(Fail::new("named in a damaged sheet"));
     };
@@ -157,15 +142,9 @@ fn a_33rd_task_is_refused(rt: HostRuntime) -> Result<(), Fail> {
     // 33 records of task (1, 1, 1), the last with a length byte that would be refused too.
     let mut sheet = [0u8; 437];
     let head: [u8; 8] = [1, 1, 0xb2, 0, 0, 0, 1, 1];
-    for (i, byte) in head.iter().enumerate() {
-        sheet[i] = *byte;
-    }
-    for k in 0..33usize {
-        let at = 8 + 13 * k;
-        sheet[at] = 12;
-        sheet[at + 4] = 1;
-        sheet[at + 8] = 1;
-        sheet[at + 12] = 1;
+    sheet[0..8].copy_from_slice(&head);
+    for record in sheet[8..].chunks_exact_mut(13) {
+        record.copy_from_slice(&[12, 0, 0, 0, 1, 0, 0, 0, 1, 0, 0, 0, 1]);
     }
     sheet[424] = 0;
     unreadable(&rt, &sheet, 6, 32)
@@ -176,8 +155,8 @@ fn bounds_of_a_task(rt: HostRuntime) -> Result<(), Fail> {
     assert!(rt; Task::new(numbers(1, 20, 5)).is_some());
     assert!(rt; Task::new(numbers(1, 21, 5)).is_none());
     let mut list = TaskList::new();
-    accepted(list.start(60, 2))?;
-    accepted(list.add(numbers(1, 20, 5)))?;
+    list.start(60, 2)?;
+    list.add(numbers(1, 20, 5))?;
     refused(&rt, list.add(numbers(1, 21, 5)), 8, 1)?;
     refused(&rt, list.add(numbers(0, 20, 5)), 8, 1)?;
     refused(&rt, list.add(numbers(6, 20, 5)), 8, 1)?;
@@ -186,8 +165,8 @@ fn bounds_of_a_task(rt: HostRuntime) -> Result<(), Fail> {
     refused(&rt, list.add(numbers(1, 4, 7)), 9, 1)?;
     refused(&rt, list.add(numbers(1, 4, 0)), 8, 1)?;
     assert_eq!(rt; list.len(), 1);
-    accepted(list.start(16_777_216, 4))?;
-    accepted(list.add(numbers(1, 1_048_576, 16_777_216)))?;
+    list.start(16_777_216, 4)?;
+    list.add(numbers(1, 1_048_576, 16_777_216))?;
     refused(&rt, list.add(numbers(1, 1_048_577, 16_777_216)), 8, 1)?;
     refused(&rt, list.start(16_777_217, 5), 7, 0)?;
     refused(&rt, list.start(1, 5), 7, 1)?;

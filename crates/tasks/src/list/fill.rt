@@ -93,26 +93,18 @@ impl TaskList {
     pub fn task(&self, number: usize) -> Option<Task>
         ensures { MatchOption result (length (tasks_of self.now) ≤ number) (λ t. (number < length (tasks_of self.now)) × (t.numbers ≡ slice_index_or (tasks_of self.now) number blank)) }
     {
-        let records = self.table.records();
-        if number < records.len() {
-            Task::new(records[number])
-        } else {
-            None
-        }
+        let numbers = self.records().get(number)?;
+        Task::new(*numbers)
     }
 
     // Where the task with this number stands in the order of tasks, if there is one.
     pub fn rank(&self, number: usize) -> Option<Rank>
         ensures { MatchOption result (length (tasks_of self.now) ≤ number) (λ rank. (number < length (tasks_of self.now)) × (rank ≡ rank_of (tasks_of self.now) number)) }
     {
-        let records = self.table.records();
-        if number < records.len() {
-            Some(Rank {
-                limit: records[number].limit,
-                number,
-            })
-        } else {
-            None
-        }
+        let task = self.records().get(number)?;
+        Some(Rank {
+            limit: task.limit,
+            number,
+        })
     }
 }

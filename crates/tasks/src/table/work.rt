@@ -5,7 +5,7 @@ ghost use Rattle.tasks.specs.Tables.{Pushed};
 
 use crate::fault::ListFault;
 use crate::record::TaskRecord;
-use crate::table::{BLANK, MOST_TASKS, Table};
+use crate::table::{MOST_TASKS, Table};
 
 impl Table {
     // A table that holds nothing.
@@ -13,7 +13,7 @@ impl Table {
         ensures { held result ≡ [] }
     {
         Table {
-            places: [BLANK; MOST_TASKS],
+            places: [TaskRecord::default(); MOST_TASKS],
             len: 0,
         }
     }
