@@ -1,3 +1,4 @@
+pub mod Alike
 pub mod Counts
 pub mod Drains
 pub mod InOrder

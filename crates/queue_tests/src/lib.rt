@@ -1,32 +1,16 @@
 // Tests of the ordered queue, at an order without ties and at one with ties.
 #![tactic(auto)]
 
-ghost use Rattle.queue_tests.specs.Order.{rank_before, ticket_before};
+ghost use Rattle.queue_tests.specs.Order.{ticket_before};
 ghost use Rattle.std.proofs.Common.{rules};
 
 use queue::Ordered;
 
 // A record of the order by limit and number, as a task's.
-#[derive(Clone, Copy, PartialEq, Eq, Debug)]
+#[derive(Clone, Copy, PartialEq, Eq, PartialOrd, Ord, Debug)]
 pub struct Rank {
     pub limit: u32,
     pub number: usize,
-}
-
-impl Ordered for Rank {
-    ghost before = { rank_before };
-
-    ghost one_way = { Prim.search rules };
-
-    ghost chain = { Prim.search rules };
-
-    fn goes_before(&self, other: &Rank) -> bool {
-        if self.limit == other.limit {
-            self.number < other.number
-        } else {
-            self.limit < other.limit
-        }
-    }
 }
 
 // A record of the order by limit alone: two of one limit tie.

@@ -6,9 +6,6 @@ use Rattle.sheet.proofs.Printing.{first_unprintable}
 use Rattle.sheet.proofs.reader.Reader.next.Goals as goal
 use Rattle.sheet.proofs.reader.Reader.next.Goals.{then-count-lt-FEWEST-via-then-count-lt-FEWEST, then-count-lt-FEWEST-via-else-count-lt-FEWEST+then-count-gt-MOST, then-count-lt-FEWEST-via-else-count-lt-FEWEST+else-count-gt-MOST+then-bytes-at}
 
-pub returns-then-at-bytes : goal.returns-then-at-bytes
-returns-then-at-bytes c = (drop_all _ _ c.if-at-bytes.true, refl)
-
 pub returns-then-count-lt-FEWEST : goal.returns-then-count-lt-FEWEST
 returns-then-count-lt-FEWEST c =
     let bytes = c.args.self.now.bytes.now in
