@@ -1,21 +1,24 @@
 -- First fit, one task after the other.
-use Rattle.std.proofs.Common.{◌≡◌, ℕ, ◌+◌, ◌<◌, ◌≤◌, List, length, take, set, Some, None, Err, Option, sym, ap, ◌∙◌, subst, arith, below_more}
+use Rattle.std.proofs.Common.{◌≡◌, ℕ, ◌+◌, ◌<◌, ◌≤◌, List, length, take, set, Some, None, Err, Option, MatchOption, sym, ap, ◌∙◌, subst, arith, below_more}
 use Rattle.std.proofs.lemmas.List.{get_or-set_same, get_or-take, length-take-le}
 use Rattle.tasks.specs.declared.record.TaskRecord.{TaskRecord}
 use Rattle.plan.specs.Placing.{CannotPlace, FirstFit, Passes, Places, Takes, lane_of, turn}
-use Rattle.plan.specs.Steps.{FirstFitted}
+use Rattle.tasks.specs.declared.table.Table.{Table}
+use Rattle.plan.specs.Steps.{FirstFitted, FirstThatTakes, row_on}
 use Rattle.plan.specs.declared.fault.PlanFault.{PlanFault}
 use Rattle.plan.specs.declared.fault.PlanFault.TheVariants.{List as OfList, PlanLength, NoLane, NoFit}
 use Rattle.plan.proofs.Growing.{Agree, placed_passes, written_agrees}
 use Rattle.plan.proofs.Order.{turn-within}
 use Rattle.plan.proofs.Settled.{Begun, takes_alike}
 
--- What was found is one thing.
-pub one_found : {o : Option ℕ} {x y : ℕ} → o ≡ Some x → o ≡ Some y → x ≡ y
-one_found e f = cc
-
-pub found_or_not : {o : Option ℕ} {x : ℕ} → o ≡ Some x → o ≡ None → ⊥
-found_or_not e f = let z : ◌≡◌ {A = ℕ} 0 1 = cc in omega arith
+-- The first lane that takes the task, from what a search over the lanes gives.
+pub first_taken :
+    (yes_to : List TaskRecord → TaskRecord → Type 0) (rows : List Table) (lanes : ℕ) (asked : TaskRecord) (found : Option ℕ)
+    → MatchOption found ((lane : ℕ) → 0 ≤ lane → lane < lanes → yes_to (row_on rows lane) asked → ⊥)
+    (λ first. (0 ≤ first) × (first < lanes) × yes_to (row_on rows first) asked × ((lower : ℕ) → 0 ≤ lower → lower < first → yes_to (row_on rows lower) asked → ⊥))
+    → FirstThatTakes yes_to rows lanes asked found
+first_taken yes_to rows lanes asked None h = λ lane. h lane (omega arith)
+first_taken yes_to rows lanes asked (Some first) h = (h.1, h.2, λ lower. h.3 lower (omega arith))
 
 module _ (yes_to : List TaskRecord → TaskRecord → Type 0) (lanes : ℕ) (tasks : List TaskRecord) where
   -- First fit looks at nothing but the lanes up to this turn.

@@ -1,7 +1,6 @@
 // Checking a plan, whoever made it.
-ghost use Rattle.std.specs.Prelude.{◌≡◌, ℕ, ◌<◌, length, MatchResult};
-ghost use Rattle.plan.specs.Placing.{Checked, Fails, Fits, OnLanes, lane_of};
-ghost use Rattle.plan.specs.Steps.{OffLanes};
+ghost use Rattle.std.specs.Prelude.{◌≡◌, ℕ, ◌<◌, length, position, nat_le, MatchResult};
+ghost use Rattle.plan.specs.Placing.{Checked, Fails, Fits, OnLanes};
 ghost use Rattle.tasks.specs.Filling.{tasks_of};
 
 use crate::fault::PlanFault;
@@ -18,20 +17,17 @@ pub fn check<F: FitTest>(list: &TaskList, plan: &[u8], test: &F) -> Result<(), P
     if plan.len() != list.len() {
         return Err(PlanFault::PlanLength(plan.len()));
     }
-    on_lanes(plan, list.lanes())?;
+    if let Some(task) = first_off_lanes(plan, list.lanes()) {
+        return Err(PlanFault::NoLane(task));
+    }
     each_fits(list, plan, test)
 }
 
-// Every byte of the plan is a lane of the box.
-fn on_lanes(plan: &[u8], lanes: u8) -> Result<(), PlanFault>
-    ensures { MatchResult result (λ _. ((number : ℕ) → number < length plan.now → lane_of plan.now number < lanes)) (λ fault. OffLanes lanes plan.now fault) }
+// The lowest number of a task whose lane the box does not have.
+fn first_off_lanes(plan: &[u8], lanes: u8) -> Option<usize>
+    ensures { result ≡ position (nat_le lanes) plan.now }
 {
-    for (task, lane) in plan.iter().enumerate() {
-        if *lane >= lanes {
-            return Err(PlanFault::NoLane(task));
-        }
-    }
-    Ok(())
+    plan.iter().position(|lane| *lane >= lanes)
 }
 
 // In their order, each task is accepted over those before it on its lane.
@@ -43,8 +39,7 @@ fn each_fits<F: FitTest>(list: &TaskList, plan: &[u8], test: &F) -> Result<(), P
     let records = list.records();
     let turns = numbers_in_order(list);
     let mut rows = Rows::empty();
-    for turn in 0..list.len() {
-        let number = turns[turn];
+    for &number in &turns[0..list.len()] {
         let lane = plan[number];
         let task = records[number];
         if !rows.takes(lane, test, task) {

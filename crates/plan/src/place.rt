@@ -29,24 +29,12 @@ fn first_fit<F: FitTest>(list: &TaskList, test: &F) -> Result<[u8; MOST_TASKS], 
     ensures { FirstFitted (F.FitTest.yes test.now) list.now.lanes (tasks_of list.now) result }
 {
     let records = list.records();
-    let lanes = list.lanes();
     let turns = numbers_in_order(list);
     let mut rows = Rows::empty();
     let mut plan = [0; MOST_TASKS];
-    for turn in 0..list.len() {
-        let number = turns[turn];
+    for &number in &turns[0..list.len()] {
         let task = records[number];
-        let mut lane = 0;
-        let first = 'seek: loop {
-            if lane >= lanes {
-                break 'seek None;
-            }
-            if rows.takes(lane, test, task) {
-                break 'seek Some(lane);
-            }
-            lane += 1;
-        };
-        let Some(lane) = first else {
+        let Some(lane) = rows.first_that_takes(list.lanes(), test, task) else {
             return Err(PlanFault::NoFit(number));
         };
         plan[number] = lane;

@@ -1,6 +1,6 @@
 // The tasks that are on each lane so far.
-ghost use Rattle.std.specs.Prelude.{◌≡◌, ℕ, ◌<◌, [], length, Decides};
-ghost use Rattle.plan.specs.Steps.{Joined, row_on};
+ghost use Rattle.std.specs.Prelude.{◌≡◌, ℕ, ◌<◌, ◌≤◌, [], length, Decides};
+ghost use Rattle.plan.specs.Steps.{FirstThatTakes, Joined, row_on};
 
 use fit::question::FitTest;
 use tasks::fault::ListFault;
@@ -30,6 +30,19 @@ impl Rows {
         ensures { Decides result (F.FitTest.yes test.now (row_on self.now.lanes lane) asked) }
     {
         test.fits(self.lanes[lane as usize].records(), asked)
+    }
+
+    // The first lane of the box on which the test takes the task.
+    pub(crate) fn first_that_takes<F: FitTest>(
+        &self,
+        lanes: u8,
+        test: &F,
+        asked: TaskRecord,
+    ) -> Option<u8>
+        requires { lanes ≤ 4 }
+        ensures { FirstThatTakes (F.FitTest.yes test.now) self.now.lanes lanes asked result }
+    {
+        (0..lanes).find(|lane| self.takes(*lane, test, asked))
     }
 
     // One task more at the end of the lane's row.

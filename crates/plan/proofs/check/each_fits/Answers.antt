@@ -1,5 +1,5 @@
 -- Each task is asked over the row of its lane in its turn.
-use Rattle.std.proofs.Common.{◌≡◌, ℕ, ◌<◌, List, [], ◌∷◌, ◌++◌, map, length, get_or, set, sym, refl, ap, subst, arith, below_more}
+use Rattle.std.proofs.Common.{◌≡◌, ℕ, ◌-◌, ◌<◌, List, [], ◌∷◌, ◌++◌, map, length, get_or, set, take, sym, refl, ap, subst, arith, below_more}
 use Rattle.std.proofs.lemmas.Bool.Decides.{not_from_Decides}
 use Rattle.tasks.specs.Filling.{tasks_of}
 use Rattle.tasks.specs.List.{held}
@@ -11,47 +11,47 @@ use Rattle.plan.proofs.Order.{number_in_turn}
 use Rattle.plan.proofs.Turning.{asked_in_turn, room_in_row, turned_next, turned_start}
 use Rattle.plan.proofs.check.each_fits.Goals as goal
 
-pub loop-turn-init : goal.loop-turn-init
-loop-turn-init g c =
+pub loop-number-init : goal.loop-number-init
+loop-number-init g c =
     (turned_start (tasks_of c.args.list.now) c.args.plan.now c.empty-rows.result.lanes c.empty-rows.ensures, λ j l. absurd (omega arith))
 
 pub bounds-plan-number : goal.bounds-plan-number
 bounds-plan-number g c =
-    let at = number_in_turn (tasks_of c.args.list.now) _ c.numbers_in_order-turns.ensures.ordered c.loop-turn.turn (omega arith) in
+    let at = number_in_turn (tasks_of c.args.list.now) _ (c.len.result - 0) (omega arith) c.numbers_in_order-turns.ensures.ordered c.loop-number.number-index (omega arith) in
     omega (arith, at.1)
 
 pub offset_bounds-records-number : goal.offset_bounds-records-number
 offset_bounds-records-number g c =
-    let at = number_in_turn (tasks_of c.args.list.now) _ c.numbers_in_order-turns.ensures.ordered c.loop-turn.turn (omega arith) in
+    let at = number_in_turn (tasks_of c.args.list.now) _ (c.len.result - 0) (omega arith) c.numbers_in_order-turns.ensures.ordered c.loop-number.number-index (omega arith) in
     omega (arith, at.1, length-tasks c.args.list.now)
 
 pub bounds-records-number : goal.bounds-records-number
 bounds-records-number g c =
-    let at = number_in_turn (tasks_of c.args.list.now) _ c.numbers_in_order-turns.ensures.ordered c.loop-turn.turn (omega arith) in
+    let at = number_in_turn (tasks_of c.args.list.now) _ (c.len.result - 0) (omega arith) c.numbers_in_order-turns.ensures.ordered c.loop-number.number-index (omega arith) in
     omega (arith, at.1, ap length c.records-records.ensures)
 
 pub takes-requires : goal.takes-requires
 takes-requires g c =
-    let at = number_in_turn (tasks_of c.args.list.now) _ c.numbers_in_order-turns.ensures.ordered c.loop-turn.turn (omega arith) in
+    let at = number_in_turn (tasks_of c.args.list.now) _ (c.len.result - 0) (omega arith) c.numbers_in_order-turns.ensures.ordered c.loop-number.number-index (omega arith) in
     omega (arith, c.requires.lanes _ at.1, c.args.list.now.lane_range)
 
 pub put-requires : goal.put-requires
 put-requires g c =
-    let at = number_in_turn (tasks_of c.args.list.now) _ c.numbers_in_order-turns.ensures.ordered c.loop-turn.turn (omega arith) in
+    let at = number_in_turn (tasks_of c.args.list.now) _ (c.len.result - 0) (omega arith) c.numbers_in_order-turns.ensures.ordered c.loop-number.number-index (omega arith) in
     omega (arith, c.requires.lanes _ at.1, c.args.list.now.lane_range)
 
 pub returns-then-not-takes : goal.returns-then-not-takes
 returns-then-not-takes g c =
     let tasks = tasks_of c.args.list.now in
     let plan = c.args.plan.now in
-    let k = c.loop-turn.turn in
-    let turned = c.loop-turn.invariant.0 in
-    let number = get_or c.numbers_in_order-turns.result k 0 in
+    let k = c.loop-number.number-index in
+    let turned = c.loop-number.invariant.0 in
+    let number = get_or (take (c.len.result - 0) c.numbers_in_order-turns.result) k 0 in
     let here : k < length tasks = omega arith in
-    let at = number_in_turn tasks c.numbers_in_order-turns.result c.numbers_in_order-turns.ensures.ordered k here in
+    let at = number_in_turn tasks c.numbers_in_order-turns.result (c.len.result - 0) (omega arith) c.numbers_in_order-turns.ensures.ordered k here in
     let four : lane_of plan number < 4 = omega (arith, c.requires.lanes number at.1, c.args.list.now.lane_range) in
     let asked =
-    asked_in_turn tasks plan k c.loop-turn.rows.lanes turned (g.F.FitTest.yes c.args.test.now)
+    asked_in_turn tasks plan k c.loop-number.rows.lanes turned (g.F.FitTest.yes c.args.test.now)
     c.args.list.now.lanes c.records-records.result.now c.records-records.ensures number at.0 (lane_of plan number) four c.takes.result c.takes.ensures in (
       k,
       here,
@@ -60,21 +60,21 @@ returns-then-not-takes g c =
           (subst (λ (n : ℕ). Takes (g.F.FitTest.yes c.args.test.now) c.args.list.now.lanes tasks plan (lane_of plan n) k) (sym at.0) fits),
       c.requires.long,
       c.requires.lanes,
-      c.loop-turn.invariant.1,
+      c.loop-number.invariant.1,
     )
 
-pub loop-turn-preserved : goal.loop-turn-preserved
-loop-turn-preserved g c =
+pub loop-number-preserved : goal.loop-number-preserved
+loop-number-preserved g c =
     let tasks = tasks_of c.args.list.now in
     let plan = c.args.plan.now in
-    let k = c.loop-turn.turn in
-    let turned = c.loop-turn.invariant.0 in
-    let number = get_or c.numbers_in_order-turns.result k 0 in
+    let k = c.loop-number.number-index in
+    let turned = c.loop-number.invariant.0 in
+    let number = get_or (take (c.len.result - 0) c.numbers_in_order-turns.result) k 0 in
     let lane = lane_of plan number in
-    let rows = c.loop-turn.rows.lanes in
+    let rows = c.loop-number.rows.lanes in
     let records = c.records-records.result.now in
     let here : k < length tasks = omega arith in
-    let at = number_in_turn tasks c.numbers_in_order-turns.result c.numbers_in_order-turns.ensures.ordered k here in
+    let at = number_in_turn tasks c.numbers_in_order-turns.result (c.len.result - 0) (omega arith) c.numbers_in_order-turns.ensures.ordered k here in
     let four : lane < 4 = omega (arith, c.requires.lanes number at.1, c.args.list.now.lane_range) in
     let asked =
     asked_in_turn tasks plan k rows turned (g.F.FitTest.yes c.args.test.now)
@@ -82,23 +82,23 @@ loop-turn-preserved g c =
     let joined =
     subst (λ (all : List TaskRecord). map held c.put.new.self.lanes ≡ set (map held rows) lane (row_on rows lane ++ (record_of all number ∷ [])))
     c.records-records.ensures c.in_ok-put.ensures in (
-      turned_next tasks plan k rows turned number lane c.put.new.self.lanes here at.0 c.loop-turn.rows.four four refl joined,
-      below_more _ k c.loop-turn.invariant.1
+      turned_next tasks plan k rows turned number lane c.put.new.self.lanes here at.0 c.loop-number.rows.four four refl joined,
+      below_more _ k c.loop-number.invariant.1
           (subst (λ (n : ℕ). Takes (g.F.FitTest.yes c.args.test.now) c.args.list.now.lanes tasks plan (lane_of plan n) k) at.0 (asked.0 c.if-not-takes.false)),
     )
 
 pub returns-in_err-put : goal.returns-in_err-put
 returns-in_err-put g c =
     let tasks = tasks_of c.args.list.now in
-    let k = c.loop-turn.turn in
-    let turned = c.loop-turn.invariant.0 in
-    let number = get_or c.numbers_in_order-turns.result k 0 in
+    let k = c.loop-number.number-index in
+    let turned = c.loop-number.invariant.0 in
+    let number = get_or (take (c.len.result - 0) c.numbers_in_order-turns.result) k 0 in
     let lane = lane_of c.args.plan.now number in
     let here : k < length tasks = omega arith in
-    let at = number_in_turn tasks c.numbers_in_order-turns.result c.numbers_in_order-turns.ensures.ordered k here in
+    let at = number_in_turn tasks c.numbers_in_order-turns.result (c.len.result - 0) (omega arith) c.numbers_in_order-turns.ensures.ordered k here in
     let four : lane < 4 = omega (arith, c.requires.lanes number at.1, c.args.list.now.lane_range) in
     absurd
-    (room_in_row tasks c.args.plan.now k c.loop-turn.rows.lanes turned here (length-tasks c.args.list.now) lane four c.in_err-put.ensures)
+    (room_in_row tasks c.args.plan.now k c.loop-number.rows.lanes turned here (length-tasks c.args.list.now) lane four c.in_err-put.ensures)
 
 pub returns : goal.returns
-returns g c k h = c.loop-turn.invariant.1 k (omega arith)
+returns g c k h = c.loop-number.invariant.1 k (omega arith)
