@@ -7,7 +7,7 @@ use sheet::fault::Layer;
 use tasks::fault::ListFault;
 
 // Why there is no such plan. `Codes` in specs/ gives each case its number and its place.
-#[derive(Clone, Copy)]
+#[derive(Clone, Copy, Debug, PartialEq, Eq)]
 pub enum PlanFault {
     // A fault of the list layer or of the one below it.
     List(ListFault),

@@ -54,7 +54,8 @@ impl Rows {
     }
 }
 
-// One task more at the end of a lane's row, in its place.
+// One task more at the end of a lane's row, in its place. Apart from `put`, since the check has no proof for
+// `self.lanes[lane].push(..)` in a struct with an invariant ("a struct of which members are out is read whole").
 fn join(rows: &mut [Table], lane: u8, task: TaskRecord) -> Result<(), ListFault>
     requires { lane < length rows.old }
     ensures { Joined rows.old lane task result rows.new }

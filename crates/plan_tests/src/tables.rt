@@ -22,53 +22,34 @@ fn office() -> [TaskRecord; 3] {
     [task(2, 6, 10), task(1, 4, 5), task(5, 12, 12)]
 }
 
-// What a call of the tasks crate gave, which these tables do not refuse.
-fn made<T>(res: Result<T, ListFault>) -> Result<T, Fail> {
-    match res {
-        Ok(value) => Ok(value),
-        Err(_) => Err(Fail::new("a list or a test that is refused")),
-    }
-}
-
 // A list of these tasks.
 fn list_of(lanes: u8, tasks: &[TaskRecord]) -> Result<TaskList, Fail> {
     let mut list = TaskList::new();
-    made(list.start(GRID, lanes))?;
+    list.start(GRID, lanes)?;
     for numbers in tasks {
-        made(list.add(*numbers))?;
+        list.add(*numbers)?;
     }
     Ok(list)
 }
 
-// The answer has this number and place; number 0 stands for no refusal.
-fn answered(
-    rt: &impl Abort,
-    answer: Result<(), PlanFault>,
-    number: u32,
-    at: usize,
-) -> Result<(), Fail> {
-    match answer {
-        Ok(()) => {
-            assert_eq!(rt; 0, number);
-            Ok(())
-        },
-        Err(fault) => {
-            assert_eq!(rt; fault.number(), number);
-            assert_eq!(rt; fault.place(), at);
-            Ok(())
-        }
-    }
+// The number and the place of a refusal.
+type Refusal = (u32, usize);
+
+// The answer is this refusal, or none.
+fn answered(rt: &impl Abort, answer: Result<(), PlanFault>, wanted: Option<Refusal>) {
+    let found = answer.err().map(|fault| (fault.number(), fault.place()));
+    assert_eq!(rt; found, wanted);
 }
 
 // Linear places the tasks so, and the check passes what was placed.
 fn placed(rt: &impl Abort, lanes: u8, tasks: &[TaskRecord], wanted: &[u8]) -> Result<(), Fail> {
-    let test = made(Linear::new(GRID))?;
+    let test = Linear::new(GRID)?;
     let list = list_of(lanes, tasks)?;
     let mut bytes = [9; 4];
     assert!(rt; wanted.len() <= 4);
     let plan = &mut bytes[0..wanted.len()];
-    answered(rt, place(&list, &test, plan), 0, 0)?;
-    answered(rt, check_plan(&list, plan, &test), 0, 0)?;
+    answered(rt, place(&list, &test, plan), None);
+    answered(rt, check_plan(&list, plan, &test), None);
     assert!(rt; *plan == *wanted);
     Ok(())
 }
@@ -81,14 +62,13 @@ fn not_placed(
     number: u32,
     at: usize,
 ) -> Result<(), Fail> {
-    let test = made(Linear::new(GRID))?;
+    let test = Linear::new(GRID)?;
     let mut plan = [9; 3];
     answered(
         rt,
         place(&list_of(lanes, tasks)?, &test, &mut plan),
-        number,
-        at,
-    )?;
+        Some((number, at)),
+    );
     assert!(rt; plan == [9; 3]);
     Ok(())
 }
@@ -98,17 +78,18 @@ fn checked(
     rt: &impl Abort,
     tasks: &[TaskRecord],
     plan: &[u8],
-    linear: (u32, usize),
-    either: (u32, usize),
+    linear: Option<Refusal>,
+    either: Option<Refusal>,
 ) -> Result<(), Fail> {
     let list = list_of(2, tasks)?;
-    let first = made(Linear::new(GRID))?;
-    answered(rt, check_plan(&list, plan, &first), linear.0, linear.1)?;
+    let first = Linear::new(GRID)?;
+    answered(rt, check_plan(&list, plan, &first), linear);
     let test = Either {
         first,
         second: Exact,
     };
-    answered(rt, check_plan(&list, plan, &test), either.0, either.1)
+    answered(rt, check_plan(&list, plan, &test), either);
+    Ok(())
 }
 
 #[test]
@@ -125,10 +106,10 @@ fn places(rt: HostRuntime) -> Result<(), Fail> {
 // As many tasks as a list may have: thirty fill the first lane.
 #[test]
 fn places_a_full_list(rt: HostRuntime) -> Result<(), Fail> {
-    let test = made(Linear::new(GRID))?;
+    let test = Linear::new(GRID)?;
     let list = list_of(2, &[task(1, 60, 60); 32])?;
     let mut plan = [9; 32];
-    answered(&rt, place(&list, &test, &mut plan), 0, 0)?;
+    answered(&rt, place(&list, &test, &mut plan), None);
     assert!(rt; plan[0] == 0 && plan[29] == 0 && plan[30] == 1 && plan[31] == 1);
     Ok(())
 }
@@ -151,28 +132,28 @@ fn places_nothing(rt: HostRuntime) -> Result<(), Fail> {
 
 #[test]
 fn checks(rt: HostRuntime) -> Result<(), Fail> {
-    checked(&rt, &office(), &[0, 0, 1], (0, 0), (0, 0))?;
-    checked(&rt, &office(), &[1, 0, 1], (0, 0), (0, 0))?;
-    checked(&rt, &office(), &[0, 0, 0], (12, 2), (0, 0))?;
-    checked(&rt, &[], &[], (0, 0), (0, 0))?;
-    checked(&rt, &office(), &[0, 0], (10, 2), (10, 2))?;
-    checked(&rt, &office(), &[0, 0, 1, 1], (10, 4), (10, 4))?;
-    checked(&rt, &[], &[0], (10, 1), (10, 1))?;
-    checked(&rt, &office(), &[0, 2, 255], (11, 1), (11, 1))?;
-    checked(&rt, &office(), &[0, 0, 2], (11, 2), (11, 2))
+    checked(&rt, &office(), &[0, 0, 1], None, None)?;
+    checked(&rt, &office(), &[1, 0, 1], None, None)?;
+    checked(&rt, &office(), &[0, 0, 0], Some((12, 2)), None)?;
+    checked(&rt, &[], &[], None, None)?;
+    checked(&rt, &office(), &[0, 0], Some((10, 2)), Some((10, 2)))?;
+    checked(&rt, &office(), &[0, 0, 1, 1], Some((10, 4)), Some((10, 4)))?;
+    checked(&rt, &[], &[0], Some((10, 1)), Some((10, 1)))?;
+    checked(&rt, &office(), &[0, 2, 255], Some((11, 1)), Some((11, 1)))?;
+    checked(&rt, &office(), &[0, 0, 2], Some((11, 2)), Some((11, 2)))
 }
 
 // Of several tasks that do not fit, the first in order is named.
 #[test]
 fn names_the_first_in_order(rt: HostRuntime) -> Result<(), Fail> {
     let full = task(1, 1, 1);
-    checked(&rt, &[full; 3], &[1, 1, 0], (12, 1), (12, 1))?;
-    checked(&rt, &[full; 3], &[0, 1, 0], (12, 2), (12, 2))?;
+    checked(&rt, &[full; 3], &[1, 1, 0], Some((12, 1)), Some((12, 1)))?;
+    checked(&rt, &[full; 3], &[0, 1, 0], Some((12, 2)), Some((12, 2)))?;
     checked(
         &rt,
         &[task(3, 3, 3), task(2, 2, 2), full],
         &[0, 0, 0],
-        (12, 1),
-        (12, 1),
+        Some((12, 1)),
+        Some((12, 1)),
     )
 }
