@@ -1,5 +1,5 @@
 -- What the numbers of a bounded task, and their sums over a row, cannot pass.
-use Rattle.std.proofs.Common.{ℕ, ◌+◌, ◌*◌, ◌/◌, ◌^◌, ◌≤◌, List, length, sum_by, arith}
+use Rattle.std.proofs.Common.{ℕ, ◌*◌, ◌/◌, ◌^◌, ◌≤◌, List, length, sum_by, arith}
 use Rattle.fit.specs.Tests.{line, requests, rounded_up, share}
 use Rattle.fit.specs.Rounding.{rounding_up_covers}
 use Rattle.std.proofs.lemmas.Nat.{mul-le, div-add-mod'}

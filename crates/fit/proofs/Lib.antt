@@ -1,5 +1,4 @@
 pub mod Alive
 pub mod Apart
 pub mod Bounds
-pub mod Scans
 pub mod Worths

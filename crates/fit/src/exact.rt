@@ -9,7 +9,7 @@ use crate::question::FitTest;
 use tasks::record::TaskRecord;
 
 // The exact test, for tasks whose limit lies within their gap.
-#[derive(Clone, Copy)]
+#[derive(Clone, Copy, Debug, PartialEq, Eq)]
 pub struct Exact;
 
 // ⌈t/p⌉ is the least whole k with t ≤ k * p.

@@ -15,7 +15,7 @@ use tasks::record::TaskRecord;
 use tasks::task::WIDEST_GRID;
 
 // The linear test over a grid, which every gap must divide.
-#[derive(Clone, Copy)]
+#[derive(Clone, Copy, Debug, PartialEq, Eq)]
 pub struct Linear {
     grid: u32,
     ghost in_range: { GridRange grid },

@@ -27,7 +27,7 @@ const NO_TASK: TaskRecord = TaskRecord {
 };
 
 // The test below, asked about works with the switch cost added.
-#[derive(Drop)]
+#[derive(Drop, Debug, PartialEq, Eq)]
 pub struct Surcharge<T> {
     below: T,
     cost: u32,
