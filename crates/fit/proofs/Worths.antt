@@ -21,7 +21,7 @@ record Worth (G : ℕ) (x : Fraction) (k : ℕ) : Type 0 where
 
 -- n/b = k/G and m/q = l/G give (n*q + m*b)/(b*q) = (k + l)/G.
 sum_worth : (G n b k m q l : ℕ) → n * G ≡ k * b → m * G ≡ l * q → (n * q + m * b) * G ≡ (k + l) * (b * q)
-sum_worth G n b k m q l x y = omega (arith, add-mul (n * q) (m * b) G, add-mul k l (b * q), one, other)
+sum_worth G n b k m q l x y = omega (arith, one, other)
   where
     one : n * q * G ≡ k * (b * q)
     one = mul_right_comm n q G ∙ ap (λ (z : ℕ). z * q) x ∙ mul_assoc k b q
@@ -55,29 +55,29 @@ module _ (G a b j c q k m r l : ℕ) (x : a * G ≡ j * b) (s : c * G ≡ k * q)
   unfolding whole_part
   cross_out hb hq hr h =
       le_of_mul-le-mul_right {m = l + k} {n = j} {k = b * q * r}
-      (omega (arith, mul-le-mul_right G h, add-mul (m * (b * q)) (c * b * r) G, add-mul l k (b * q * r), right_worth, less_worth, left_worth))
+      (omega (arith, mul-le-mul_right G h, right_worth, less_worth, left_worth))
       (mul-pos (mul-pos hb hq) hr)
 
   cross_in : 1 ≤ G → l + k ≤ j → m * (b * q) + c * b * r ≤ a * q * r
   unfolding whole_part
   cross_in some h =
       le_of_mul-le-mul_right {m = m * (b * q) + c * b * r} {n = a * q * r} {k = G}
-      (omega (arith, mul-le-mul_right (b * q * r) h, add-mul (m * (b * q)) (c * b * r) G, add-mul l k (b * q * r), right_worth, less_worth, left_worth))
+      (omega (arith, mul-le-mul_right (b * q * r) h, right_worth, less_worth, left_worth))
       some
 
 -- ---- A difference of naturals, times r, over the integers and over the naturals
 
 module _ (A C r : ℕ) where
   parts : up (pos A -ℤ pos C) * r + C * r ≡ down (pos A -ℤ pos C) * r + A * r
-  parts = omega (arith, ap (λ (n : ℕ). n * r) level, add-mul (up (pos A -ℤ pos C)) C r, add-mul (down (pos A -ℤ pos C)) A r)
+  parts = omega (arith, ap (λ (n : ℕ). n * r) level)
     where
       level : up (pos A -ℤ pos C) + C ≡ down (pos A -ℤ pos C) + A
       level = omega (arith, sum_is_lem (pos A) (neg_ℤ (pos C)), neg_is (pos C))
 
   times : (up ((pos A -ℤ pos C) *ℤ pos r) ≡ up (pos A -ℤ pos C) * r) × (down ((pos A -ℤ pos C) *ℤ pos r) ≡ down (pos A -ℤ pos C) * r)
   times = (
-    (product_is (pos A -ℤ pos C) (pos r)).0 ∙ omega (arith, mul-zero (down (pos A -ℤ pos C))),
-    (product_is (pos A -ℤ pos C) (pos r)).1 ∙ omega (arith, mul-zero (up (pos A -ℤ pos C))),
+    (product_is (pos A -ℤ pos C) (pos r)).0 ∙ omega arith,
+    (product_is (pos A -ℤ pos C) (pos r)).1 ∙ omega arith,
   )
 
   minus_out : (M : ℕ) → pos M ≤ℤ ((pos A -ℤ pos C) *ℤ pos r) → M + C * r ≤ A * r
@@ -112,7 +112,7 @@ module _ (G : ℕ) where
       record {
         n = v.n * c;
         is = ap (λ (z : ℤ). z *ℤ pos c) v.is;
-        proper = omega (arith, mul-one x.denominator, v.proper);
+        proper = omega (arith, v.proper);
         worth = scaled_worth G v.n x.denominator k c v.worth;
       }
 
@@ -156,7 +156,7 @@ linear_is_the_standard grid row asked range lawful = (
   λ yes_to.
       record {
         inequality_5 = worth_in grid limit lines work range.0 yes_to.in_time;
-        inequality_6 = worth_in grid one shares asked_share range.0 (omega (arith, mul-one grid, yes_to.shares));
+        inequality_6 = worth_in grid one shares asked_share range.0 (omega (arith, yes_to.shares));
       },
   λ by_standard.
       record {
@@ -164,7 +164,7 @@ linear_is_the_standard grid row asked range lawful = (
         row_on_grid = lawful.row_on_grid;
         asked_on_grid = lawful.asked_on_grid;
         in_time = worth_out grid limit lines work by_standard.inequality_5;
-        shares = omega (arith, mul-one grid, worth_out grid one shares asked_share by_standard.inequality_6);
+        shares = omega (arith, worth_out grid one shares asked_share by_standard.inequality_6);
       },
 )
   where

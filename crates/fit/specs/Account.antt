@@ -128,7 +128,7 @@ account_closes : {from clock closed served : ℕ} {t : TaskRecord} (last : Optio
     Account from clock t (record { last = last; waiting = rest }) (closed + 1) (served + 1)
 account_closes {from} {clock} {closed} {served} {t} last j rest proper h =
     record {
-      within = omega (arith, h.within, h.unfinished.0, add-mul closed 1 t.work, one-mul t.work);
+      within = omega (arith, h.within, h.unfinished.0);
       unfinished = rest_unfinished t.work rest proper.0 h.unfinished.1;
       spaced = h.spaced.1;
       next = λ at late may. omega (arith, ap (λ (n : ℕ). n * t.gap) same, h.next at late may);
@@ -173,14 +173,14 @@ account_served {closed = closed} said w proper h =
 
 begun_within : (work : ℕ) (jobs : List Job) → Unfinished work jobs → begun jobs ≤ length jobs * work
 begun_within work [] u = omega arith
-begun_within work (j ∷ rest) u = omega (arith, u.0, suc-mul (length rest) work)
+begun_within work (j ∷ rest) u = omega (arith, u.0)
 
 -- The task was served at most the works of its releases in the window.
 pub served_within : {from clock closed served : ℕ} {t : TaskRecord} {s : Standing} →
     Account from clock t s closed served → served ≤ (closed + length s.waiting) * t.work
 served_within {closed = closed} {t = t} {s = s} h =
     omega
-    (arith, h.within, begun_within t.work s.waiting h.unfinished, add-mul closed (length s.waiting) t.work)
+    (arith, h.within, begun_within t.work s.waiting h.unfinished)
 
 spaced_at : (from gap closed : ℕ) (jobs : List Job) (i : ℕ) (d : Job) → Spaced from gap closed jobs → i < length jobs →
     from + (closed + i) * gap ≤ (slice_index_or jobs i d).release
@@ -219,14 +219,11 @@ waiting_release {from} {clock} {closed} {served} {t} {s} job h has = (closed + h
           arith,
           h.within,
           begun_short t.work s.waiting some h.unfinished,
-          add-mul (closed + has.0) 1 t.work,
-          add-mul closed has.0 t.work,
-          one-mul t.work,
         )
 
 -- A task that has closed no job was served less than its work.
 pub served_short : {from clock served : ℕ} {t : TaskRecord} {s : Standing} → 1 ≤ t.work → Account from clock t s 0 served → served < t.work
-served_short {t = t} {s = s} some h = omega (arith, h.within, zero-mul t.work, short s.waiting h.unfinished)
+served_short {t = t} {s = s} some h = omega (arith, h.within, short s.waiting h.unfinished)
   where
     short : (jobs : List Job) → Unfinished t.work jobs → begun jobs < t.work
     short [] u = some

@@ -33,7 +33,7 @@ row_count time count from clock (t ∷ row) (s ∷ ss) total short counts h =
     fewer : h.0 + length s.waiting < count t + 1
     fewer =
         lt_of_mul-lt-mul_right t.gap
-        (omega (arith, h.4.before, counts.0, add-mul (count t) 1 t.gap, one-mul t.gap))
+        (omega (arith, h.4.before, counts.0))
 
     counted : h.0 + length s.waiting ≤ count t
     counted = omega (arith, fewer)
@@ -102,7 +102,7 @@ module _ (row : List TaskRecord) (asked : TaskRecord) (time : ℕ) (count : Task
       none : length a.waiting < 1
       none =
           lt_of_mul-lt-mul_right asked.gap
-          (omega (arith, v.asked_account.next clock (omega (arith, v.full)) may, v.short, rule.within_gap, one-mul asked.gap, ap (λ (n : ℕ). n * asked.gap) same))
+          (omega (arith, v.asked_account.next clock (omega (arith, v.full)) may, v.short, rule.within_gap, ap (λ (n : ℕ). n * asked.gap) same))
 
   -- The last task is served: its job waits on, or it closes and then nothing waits.
   after_asked : {clock : ℕ} {rs rs' : List Standing} {a a' : Standing} (v : Short row asked time clock rs a) →

@@ -12,12 +12,12 @@ use Rattle.tasks.specs.declared.record.TaskRecord.{TaskRecord}
 module _ (time gap : ℕ) (some : 1 ≤ gap) where
   pub covers : time ≤ rounded_up time gap * gap
   covers =
-      omega (arith, div-add-mod' time gap, mod_below time gap some, add-mul (time / gap) (min 1 (time % gap)) gap, cover (time % gap) (mod_below time gap some))
+      omega (arith, div-add-mod' time gap, mod_below time gap some, cover (time % gap) (mod_below time gap some))
     where
       cover : (rest : ℕ) → rest < gap → rest ≤ min 1 rest * gap
       cover rest h =
           ⊎_elim
-          (λ (left : 0 < rest). let one : min 1 rest ≡ 1 = omega arith in omega (arith, ap (λ n. n * gap) one, one-mul gap))
+          (λ (left : 0 < rest). let one : min 1 rest ≡ 1 = omega arith in omega (arith, ap (λ n. n * gap) one))
           (λ (none : rest ≤ 0). omega arith)
           (cases_lt 0 rest)
 
@@ -29,7 +29,7 @@ module _ (time gap : ℕ) (some : 1 ≤ gap) where
     where
       too_many : k < time / gap → ⊥
       too_many lt =
-          omega (arith, mul-le (k + 1) gap (time / gap) gap (omega arith) (omega arith), add-mul k 1 gap, one-mul gap, div-add-mod' time gap)
+          omega (arith, mul-le (k + 1) gap (time / gap) gap (omega arith) (omega arith), div-add-mod' time gap)
 
       level : time / gap ≡ k → rounded_up time gap ≤ k
       level e = omega (arith, ap (λ n. n * gap) e, div-add-mod' time gap)

@@ -13,37 +13,33 @@ use Rattle.fit.specs.Window.{Accounts, Window, window}
 -- Slots within n works, where n gaps reach at most one gap past `span`, are within one work and the share of `span`.
 share_covers : (scale share work gap n slots span : ℕ) → scale * work ≤ share * gap → slots ≤ n * work → n * gap ≤ span + gap →
     scale * slots ≤ scale * work + share * span
-share_covers scale share work gap zero slots span covers within spaced = omega (arith, mul-le-mul_left scale none, mul-zero scale)
+share_covers scale share work gap zero slots span covers within spaced = omega (arith, mul-le-mul_left scale none)
   where
     none : slots ≤ 0
-    none = omega (arith, zero-mul work)
+    none = omega arith
 share_covers scale share work gap (suc n) slots span covers within spaced =
     omega (
       arith,
       mul-le-mul_left scale within,
       ap (λ (m : ℕ). scale * m) (suc-mul n work),
-      mul-add scale (n * work) work,
-      mul_left_comm scale n work,
       mul-le-mul_left n covers,
-      mul_left_comm n share gap,
       mul-le-mul_left share before,
     )
   where
     before : n * gap ≤ span
-    before = omega (arith, suc-mul n gap)
+    before = omega arith
 
 -- The row was served at most, of each task, its work and its share of the window.
 row_share : (scale : ℕ) (share : TaskRecord → ℕ) (from clock span : ℕ) (row : List TaskRecord) (ss : List Standing) (total : ℕ) →
     from + span ≡ clock → AllByRecursion (Covers scale share) row → Accounts from clock row ss total →
     scale * total ≤ sum_by (λ t. scale * t.work + share t * span) row
-row_share scale share from clock span [] [] total e covers h = omega (arith, ap (λ (n : ℕ). scale * n) h, mul-zero scale)
+row_share scale share from clock span [] [] total e covers h = omega (arith, ap (λ (n : ℕ). scale * n) h)
 row_share scale share from clock span [] (s ∷ ss) total e covers h = elim h [ ]
 row_share scale share from clock span (t ∷ row) [] total e covers h = elim h [ ]
 row_share scale share from clock span (t ∷ row) (s ∷ ss) total e covers h =
     omega (
       arith,
       ap (λ (n : ℕ). scale * n) h.3,
-      mul-add scale h.1 h.2,
       share_covers scale (share t) t.work t.gap (h.0 + length s.waiting) h.1 span covers.0 (served_within h.4) spaced,
       row_share scale share from clock span row ss h.2 e covers.1 h.5,
       sum_by-cons (λ (t : TaskRecord). scale * t.work + share t * span) t row,
@@ -55,14 +51,13 @@ row_share scale share from clock span (t ∷ row) (s ∷ ss) total e covers h =
 -- Works and shares of a time, added up apart.
 shares_apart : (scale : ℕ) (share : TaskRecord → ℕ) (time : ℕ) (row : List TaskRecord) →
     sum_by (λ t. scale * t.work + share t * time) row ≡ sum_by (λ t. scale * t.work) row + sum_by share row * time
-shares_apart scale share time [] = omega (arith, zero-mul time)
+shares_apart scale share time [] = omega arith
 shares_apart scale share time (t ∷ row) =
     omega (
       arith,
       sum_by-cons (λ (t : TaskRecord). scale * t.work + share t * time) t row,
       sum_by-cons (λ (t : TaskRecord). scale * t.work) t row,
       ap (λ (n : ℕ). n * time) (sum_by-cons share t row),
-      add-mul (share t) (sum_by share row) time,
       shares_apart scale share time row,
     )
 
@@ -78,18 +73,9 @@ shares_refuse : (scale asked_share work_sum share_sum asked_work lead time more 
 shares_refuse scale asked_share work_sum share_sum asked_work lead time more slots asked_slots some first second row asked full =
     omega (
       arith,
-      mul-add share_sum lead (time + more),
-      mul-add share_sum time more,
-      mul-add scale asked_slots 1,
-      mul-one scale,
       ap (λ (n : ℕ). scale * n) full,
-      mul-add scale slots asked_slots,
-      mul-add scale lead (time + more),
-      mul-add scale time more,
       mul-le-mul_right lead second,
-      add-mul asked_share share_sum lead,
       mul-le-mul_right more second,
-      add-mul asked_share share_sum more,
     )
 
 pub share_rule : SharesBoundWaiting
@@ -125,4 +111,4 @@ share_rule scale share row asked time some proper one covers covered first secon
     span = omega (arith, late.past, j.1)
 
     behind : (j.0 + 1) * asked.gap ≤ lead + asked.gap
-    behind = omega (arith, j.1, add-mul j.0 1 asked.gap, one-mul asked.gap)
+    behind = omega (arith, j.1)
