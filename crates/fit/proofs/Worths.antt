@@ -1,5 +1,5 @@
 -- Fractions that are worth whole numbers of G-ths add up and compare as those numbers do, so linear is the standard.
-use Rattle.std.proofs.Common.{◌≡◌, ℕ, ◌+◌, ◌*◌, ◌≤◌, List, [], ◌∷◌, ℤ, pos, ◌+ℤ◌, ◌-ℤ◌, ◌*ℤ◌, neg_ℤ, ◌≤ℤ◌, sum_by, sym, refl, ap, ◌∙◌, subst, mul-le-mul_right, mul_assoc, mul_comm, add-mul, mul-pos, mul-zero, zero-mul, mul-one, mul_right_comm, le_of_mul-le-mul_right, arith}
+use Rattle.std.proofs.Common.{◌≡◌, ℕ, ◌+◌, ◌*◌, ◌≤◌, List, [], ◌∷◌, ℤ, pos, ◌+ℤ◌, ◌-ℤ◌, ◌*ℤ◌, neg_ℤ, ◌≤ℤ◌, sum_by, sym, refl, ap, ◌∙◌, subst, mul-le-mul_right, mul_assoc, mul_comm, mul-pos, zero-mul, mul-one, mul_right_comm, le_of_mul-le-mul_right, arith}
 use mathlib.Core.Path.{subst₃}
 use borrow.Author.Differences.{at_most_in, down, le_out, neg_is, product_is, sum_is_lem, up}
 use Rattle.fit.specs.Laws.{share_exact}

@@ -1,6 +1,6 @@
 -- The account of a busy window: per task, how many of its jobs closed since the window's start, and the slots that it was served.
 use Rattle.std.specs.Prelude.{◌≡◌, ℕ, zero, suc, ◌+◌, ◌*◌, ◌<◌, ◌≤◌, Bool, true, false, cond, ◌⊎◌, List, [], ◌∷◌, ◌++◌, length, Option, nat_le, slice_index_or, refl}
-use Rattle.std.proofs.Common.{sym, ap, subst, ◌∙◌, inl, inr, ⊎_elim, zero-mul, suc-mul, add-mul, one-mul, not-suc-le-zero, le_of_suc-le-suc, arith}
+use Rattle.std.proofs.Common.{sym, ap, subst, ◌∙◌, inl, inr, ⊎_elim, zero-mul, add-mul, one-mul, not-suc-le-zero, le_of_suc-le-suc, arith}
 use Rattle.std.specs.List.{ContainsAt, AllByRecursion}
 use Rattle.std.proofs.ByRecursion.{All-push}
 use Rattle.std.proofs.lemmas.List.{length_push}
@@ -70,15 +70,9 @@ unfinished_push work (j ∷ rest) clock h u = (u.0, All-push (λ k. k.served ≡
 
 spaced_push : (from gap closed : ℕ) (jobs : List Job) (clock : ℕ) → Spaced from gap closed jobs →
     from + (closed + length jobs) * gap ≤ clock → Spaced from gap closed (jobs ++ (new_job clock ∷ []))
-spaced_push from gap closed [] clock s h = (omega (arith, ap (λ (n : ℕ). n * gap) same), tt)
-  where
-    same : closed + 0 ≡ closed
-    same = omega arith
+spaced_push from gap closed [] clock s h = (omega arith, tt)
 spaced_push from gap closed (j ∷ rest) clock s h =
-    (s.0, spaced_push from gap (closed + 1) rest clock s.1 (omega (arith, ap (λ (n : ℕ). n * gap) same)))
-  where
-    same : closed + suc (length rest) ≡ closed + 1 + length rest
-    same = omega arith
+    (s.0, spaced_push from gap (closed + 1) rest clock s.1 (omega arith))
 
 -- The task releases a job.
 pub account_comes : {from clock closed served : ℕ} {t : TaskRecord} {s : Standing} → Proper t → from ≤ clock → MayRelease clock t s →
@@ -131,12 +125,9 @@ account_closes {from} {clock} {closed} {served} {t} last j rest proper h =
       within = omega (arith, h.within, h.unfinished.0);
       unfinished = rest_unfinished t.work rest proper.0 h.unfinished.1;
       spaced = h.spaced.1;
-      next = λ at late may. omega (arith, ap (λ (n : ℕ). n * t.gap) same, h.next at late may);
-      before = omega (arith, ap (λ (n : ℕ). n * t.gap) same, h.before);
+      next = λ at late may. omega (arith, h.next at late may);
+      before = omega (arith, h.before);
     }
-  where
-    same : closed + suc (length rest) ≡ closed + 1 + length rest
-    same = omega arith
 
 -- A slot of service: the job closes, or it waits on.
 pub account_serves : {from clock closed served : ℕ} {t : TaskRecord} {s : Standing} (said : Bool) (w : Waiting s) → Proper t →
@@ -185,15 +176,9 @@ served_within {closed = closed} {t = t} {s = s} h =
 spaced_at : (from gap closed : ℕ) (jobs : List Job) (i : ℕ) (d : Job) → Spaced from gap closed jobs → i < length jobs →
     from + (closed + i) * gap ≤ (slice_index_or jobs i d).release
 spaced_at from gap closed [] i d s h = absurd (not-suc-le-zero h)
-spaced_at from gap closed (j ∷ rest) zero d s h = omega (arith, s.0, ap (λ (n : ℕ). n * gap) same)
-  where
-    same : closed + 0 ≡ closed
-    same = omega arith
+spaced_at from gap closed (j ∷ rest) zero d s h = omega (arith, s.0)
 spaced_at from gap closed (j ∷ rest) (suc i) d s h =
-    omega (arith, spaced_at from gap (closed + 1) rest i d s.1 (le_of_suc-le-suc h), ap (λ (n : ℕ). n * gap) same)
-  where
-    same : closed + suc i ≡ closed + 1 + i
-    same = omega arith
+    omega (arith, spaced_at from gap (closed + 1) rest i d s.1 (le_of_suc-le-suc h))
 
 begun_short : (work : ℕ) (jobs : List Job) → 1 ≤ length jobs → Unfinished work jobs → begun jobs < work
 begun_short work [] h u = absurd (not-suc-le-zero h)

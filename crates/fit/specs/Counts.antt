@@ -1,6 +1,6 @@
 -- The exact rule: with a gap no shorter than the time, no busy window of a lane reaches the time, and so no job waits for it.
 use Rattle.std.specs.Prelude.{◌≡◌, ℕ, ◌+◌, ◌*◌, ◌<◌, ◌≤◌, Bool, true, false, cond, ◌⊎◌, List, [], ◌∷◌, length, sum_by}
-use Rattle.std.proofs.Common.{ap, ◌∙◌, inl, inr, add-mul, one-mul, mul-le-mul_right, lt_of_mul-lt-mul_right, arith}
+use Rattle.std.proofs.Common.{ap, ◌∙◌, inl, inr, mul-le-mul_right, lt_of_mul-lt-mul_right, arith}
 use Rattle.std.specs.List.{AllByRecursion}
 use Rattle.std.proofs.lemmas.List.{length_push, nil_from_length}
 use Rattle.std.proofs.lemmas.List.Sums.{sum_by-cons}
@@ -96,13 +96,10 @@ module _ (row : List TaskRecord) (asked : TaskRecord) (time : ℕ) (count : Task
   few_after_release v (stays no_more) = v.at_most_one
   few_after_release {clock} {a = a} v (comes may no_more) = omega (arith, length_push a.waiting (record { release = clock; served = 0 }), none)
     where
-      same : 0 + length a.waiting ≡ length a.waiting
-      same = omega arith
-
       none : length a.waiting < 1
       none =
           lt_of_mul-lt-mul_right asked.gap
-          (omega (arith, v.asked_account.next clock (omega (arith, v.full)) may, v.short, rule.within_gap, ap (λ (n : ℕ). n * asked.gap) same))
+          (omega (arith, v.asked_account.next clock (omega (arith, v.full)) may, v.short, rule.within_gap))
 
   -- The last task is served: its job waits on, or it closes and then nothing waits.
   after_asked : {clock : ℕ} {rs rs' : List Standing} {a a' : Standing} (v : Short row asked time clock rs a) →

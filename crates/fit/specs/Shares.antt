@@ -1,6 +1,6 @@
 -- The share rule: over any scale and any shares that are at least their fractions, no job waits for the time that the rule gives.
 use Rattle.std.specs.Prelude.{◌≡◌, ℕ, zero, suc, ◌+◌, ◌-◌, ◌*◌, ◌<◌, ◌≤◌, List, [], ◌∷◌, length, sum_by}
-use Rattle.std.proofs.Common.{ap, mul-zero, zero-mul, suc-mul, mul-add, add-mul, mul-one, one-mul, mul_left_comm, mul-le-mul_left, mul-le-mul_right, arith}
+use Rattle.std.proofs.Common.{ap, suc-mul, mul-le-mul_left, mul-le-mul_right, arith}
 use Rattle.std.specs.List.{AllByRecursion}
 use Rattle.std.proofs.lemmas.List.Sums.{sum_by-cons}
 use Rattle.tasks.specs.declared.record.TaskRecord.{TaskRecord}
