@@ -21,7 +21,7 @@ Apart gap last jobs = MatchOption last (jobs ≡ []) (λ at. Before gap at jobs)
 before_push : (gap last clock : ℕ) (jobs : List Job) → last + gap ≤ clock → Before gap last jobs → Before gap clock (jobs ++ (new_job clock ∷ []))
 before_push gap last clock [] late h = (omega arith, tt)
 before_push gap last clock (j ∷ rest) late h =
-    (omega (arith, h.0, ap (λ (n : ℕ). n * gap) longer), before_push gap last clock rest late h.1)
+    (omega (arith, ap (λ (n : ℕ). n * gap) longer), before_push gap last clock rest late h.1)
   where
     longer : length (rest ++ (new_job clock ∷ [])) ≡ suc (length rest)
     longer = omega (arith, length_push rest (new_job clock))
@@ -86,7 +86,7 @@ apart_at (t ∷ row) (s ∷ ss) (suc i) h = apart_at row ss i h.1
 first-release : (gap clock : ℕ) (last : Option ℕ) (j : Job) (rest : List Job) → Apart gap last (j ∷ rest) →
     IfSome last (λ at. at + gap ≤ clock) → j.release + suc (length rest) * gap ≤ clock
 first-release gap clock None j rest h may = absurd (omega (arith, ap length h))
-first-release gap clock (Some last) j rest h may = omega (arith, h.0, may)
+first-release gap clock (Some last) j rest h may = omega (arith, may)
 
 -- With as many jobs as places the first one would be late.
 full-is-late : (row : List TaskRecord) (i places : ℕ) (l : Lane) → (get_or row i no_task).limit ≤ places * (get_or row i no_task).gap →

@@ -112,7 +112,7 @@ module _ (G : ℕ) where
       record {
         n = v.n * c;
         is = ap (λ (z : ℤ). z *ℤ pos c) v.is;
-        proper = omega (arith, v.proper);
+        proper = omega arith;
         worth = scaled_worth G v.n x.denominator k c v.worth;
       }
 
@@ -156,7 +156,7 @@ linear_is_the_standard grid row asked range lawful = (
   λ yes_to.
       record {
         inequality_5 = worth_in grid limit lines work range.0 yes_to.in_time;
-        inequality_6 = worth_in grid one shares asked_share range.0 (omega (arith, yes_to.shares));
+        inequality_6 = worth_in grid one shares asked_share range.0 (omega arith);
       },
   λ by_standard.
       record {

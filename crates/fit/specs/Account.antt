@@ -105,7 +105,7 @@ account_goes_on : {from clock closed served : ℕ} {t : TaskRecord} (last : Opti
     Account from clock t (record { last = last; waiting = served_once j ∷ rest }) closed (served + 1)
 account_goes_on last j rest under h =
     record {
-      within = omega (arith, h.within);
+      within = omega arith;
       unfinished = (under, h.unfinished.1);
       spaced = h.spaced;
       next = h.next;
@@ -114,7 +114,7 @@ account_goes_on last j rest under h =
 
 rest_unfinished : (work : ℕ) (jobs : List Job) → 1 ≤ work → AllByRecursion (λ k. k.served ≡ 0) jobs → Unfinished work jobs
 rest_unfinished work [] h fresh = tt
-rest_unfinished work (j ∷ rest) h fresh = (omega (arith, fresh.0), fresh.1)
+rest_unfinished work (j ∷ rest) h fresh = (omega arith, fresh.1)
 
 -- The first waiting job was served and closes.
 account_closes : {from clock closed served : ℕ} {t : TaskRecord} (last : Option ℕ) (j : Job) (rest : List Job) → Proper t →
@@ -122,11 +122,11 @@ account_closes : {from clock closed served : ℕ} {t : TaskRecord} (last : Optio
     Account from clock t (record { last = last; waiting = rest }) (closed + 1) (served + 1)
 account_closes {from} {clock} {closed} {served} {t} last j rest proper h =
     record {
-      within = omega (arith, h.within, h.unfinished.0);
+      within = omega arith;
       unfinished = rest_unfinished t.work rest proper.0 h.unfinished.1;
       spaced = h.spaced.1;
       next = λ at late may. omega (arith, h.next at late may);
-      before = omega (arith, h.before);
+      before = omega arith;
     }
 
 -- A slot of service: the job closes, or it waits on.
@@ -164,19 +164,19 @@ account_served {closed = closed} said w proper h =
 
 begun_within : (work : ℕ) (jobs : List Job) → Unfinished work jobs → begun jobs ≤ length jobs * work
 begun_within work [] u = omega arith
-begun_within work (j ∷ rest) u = omega (arith, u.0)
+begun_within work (j ∷ rest) u = omega arith
 
 -- The task was served at most the works of its releases in the window.
 pub served_within : {from clock closed served : ℕ} {t : TaskRecord} {s : Standing} →
     Account from clock t s closed served → served ≤ (closed + length s.waiting) * t.work
 served_within {closed = closed} {t = t} {s = s} h =
     omega
-    (arith, h.within, begun_within t.work s.waiting h.unfinished)
+    (arith, begun_within t.work s.waiting h.unfinished)
 
 spaced_at : (from gap closed : ℕ) (jobs : List Job) (i : ℕ) (d : Job) → Spaced from gap closed jobs → i < length jobs →
     from + (closed + i) * gap ≤ (slice_index_or jobs i d).release
 spaced_at from gap closed [] i d s h = absurd (not-suc-le-zero h)
-spaced_at from gap closed (j ∷ rest) zero d s h = omega (arith, s.0)
+spaced_at from gap closed (j ∷ rest) zero d s h = omega arith
 spaced_at from gap closed (j ∷ rest) (suc i) d s h =
     omega (arith, spaced_at from gap (closed + 1) rest i d s.1 (le_of_suc-le-suc h))
 
@@ -196,19 +196,18 @@ waiting_release {from} {clock} {closed} {served} {t} {s} job h has = (closed + h
         (spaced_at from t.gap closed s.waiting has.0 job h.spaced has.1)
 
     some : 1 ≤ length s.waiting
-    some = omega (arith, has.1)
+    some = omega arith
 
     short : served < (closed + has.0 + 1) * t.work
     short =
         omega (
           arith,
-          h.within,
           begun_short t.work s.waiting some h.unfinished,
         )
 
 -- A task that has closed no job was served less than its work.
 pub served_short : {from clock served : ℕ} {t : TaskRecord} {s : Standing} → 1 ≤ t.work → Account from clock t s 0 served → served < t.work
-served_short {t = t} {s = s} some h = omega (arith, h.within, short s.waiting h.unfinished)
+served_short {t = t} {s = s} some h = omega (arith, short s.waiting h.unfinished)
   where
     short : (jobs : List Job) → Unfinished t.work jobs → begun jobs < t.work
     short [] u = some

@@ -46,7 +46,7 @@ row_share scale share from clock span (t ∷ row) (s ∷ ss) total e covers h =
     )
   where
     spaced : (h.0 + length s.waiting) * t.gap ≤ span + t.gap
-    spaced = omega (arith, h.4.before)
+    spaced = omega arith
 
 -- Works and shares of a time, added up apart.
 shares_apart : (scale : ℕ) (share : TaskRecord → ℕ) (time : ℕ) (row : List TaskRecord) →
@@ -108,7 +108,7 @@ share_rule scale share row asked time some proper one covers covered first secon
     more = late.lane.clock - (late.job.release + time)
 
     span : v.from + (lead + (time + more)) ≡ late.lane.clock
-    span = omega (arith, late.past, j.1)
+    span = omega (arith, j.1)
 
     behind : (j.0 + 1) * asked.gap ≤ lead + asked.gap
     behind = omega (arith, j.1)
