@@ -1,5 +1,5 @@
 -- Fractions that are worth whole numbers of G-ths add up and compare as those numbers do, so linear is the standard.
-use Rattle.std.proofs.Common.{◌≡◌, ℕ, ◌+◌, ◌*◌, ◌≤◌, List, [], ◌∷◌, ℤ, pos, ◌+ℤ◌, ◌-ℤ◌, ◌*ℤ◌, neg_ℤ, ◌≤ℤ◌, sum_by, sym, refl, ap, ◌∙◌, subst, mul-le-mul_right, mul_assoc, mul_comm, mul-pos, zero-mul, mul-one, mul_right_comm, le_of_mul-le-mul_right, arith}
+use Rattle.std.proofs.Common.{◌≡◌, ℕ, ◌+◌, ◌*◌, ◌≤◌, List, [], ◌∷◌, ℤ, pos, ◌+ℤ◌, ◌-ℤ◌, ◌*ℤ◌, neg_ℤ, ◌≤ℤ◌, sum_by, sym, refl, ap, ◌∙◌, subst, mul-le-mul_right, mul-pos, zero-mul, le_of_mul-le-mul_right, arith}
 use mathlib.Core.Path.{subst₃}
 use borrow.Author.Differences.{at_most_in, down, le_out, neg_is, product_is, sum_is_lem, up}
 use Rattle.fit.specs.Laws.{share_exact}
@@ -21,48 +21,24 @@ record Worth (G : ℕ) (x : Fraction) (k : ℕ) : Type 0 where
 
 -- n/b = k/G and m/q = l/G give (n*q + m*b)/(b*q) = (k + l)/G.
 sum_worth : (G n b k m q l : ℕ) → n * G ≡ k * b → m * G ≡ l * q → (n * q + m * b) * G ≡ (k + l) * (b * q)
-sum_worth G n b k m q l x y = omega (arith, one, other)
-  where
-    one : n * q * G ≡ k * (b * q)
-    one = mul_right_comm n q G ∙ ap (λ (z : ℕ). z * q) x ∙ mul_assoc k b q
-
-    other : m * b * G ≡ l * (b * q)
-    other = mul_right_comm m b G ∙ ap (λ (z : ℕ). z * b) y ∙ mul_assoc l q b ∙ ap (λ (z : ℕ). l * z) (mul_comm q b)
+sum_worth G n b k m q l x y = omega (arith, ap (λ (z : ℕ). z * q) x, ap (λ (z : ℕ). z * b) y)
 
 -- n/b = k/G gives (n*c)/b = (k*c)/G.
 scaled_worth : (G n b k c : ℕ) → n * G ≡ k * b → n * c * G ≡ k * c * (b * 1)
-scaled_worth G n b k c x = mul_right_comm n c G ∙ ap (λ (z : ℕ). z * c) x ∙ mul_right_comm k b c ∙ ap (λ (z : ℕ). k * c * z) (sym (mul-one b))
+scaled_worth G n b k c x = omega (arith, ap (λ (z : ℕ). z * c) x)
 
 -- Where a/b = j/G, c/q = k/G and m/r = l/G, the cross product of a/b - c/q ≥ m/r is j - k ≥ l times b*q*r and over G.
 module _ (G a b j c q k m r l : ℕ) (x : a * G ≡ j * b) (s : c * G ≡ k * q) (y : m * G ≡ l * r) where
-  whole_part : ℕ
-  whole_part = b * q * r
-
-  right_worth : m * (b * q) * G ≡ l * whole_part
-  unfolding whole_part
-  right_worth = mul_right_comm m (b * q) G ∙ ap (λ (z : ℕ). z * (b * q)) y ∙ mul_assoc l r (b * q) ∙ ap (λ (z : ℕ). l * z) (mul_comm r (b * q))
-
-  less_worth : c * b * r * G ≡ k * whole_part
-  unfolding whole_part
-  less_worth =
-      mul_right_comm (c * b) r G ∙ ap (λ (z : ℕ). z * r) (mul_right_comm c b G ∙ ap (λ (z : ℕ). z * b) s ∙ mul_right_comm k q b ∙ mul_assoc k b q) ∙ mul_assoc k (b * q) r
-
-  left_worth : a * q * r * G ≡ j * whole_part
-  unfolding whole_part
-  left_worth = mul_right_comm (a * q) r G ∙ ap (λ (z : ℕ). z * r) (mul_right_comm a q G ∙ ap (λ (z : ℕ). z * q) x ∙ mul_assoc j b q) ∙ mul_assoc j (b * q) r
-
   cross_out : 1 ≤ b → 1 ≤ q → 1 ≤ r → m * (b * q) + c * b * r ≤ a * q * r → l + k ≤ j
-  unfolding whole_part
   cross_out hb hq hr h =
       le_of_mul-le-mul_right {m = l + k} {n = j} {k = b * q * r}
-      (omega (arith, mul-le-mul_right G h, right_worth, less_worth, left_worth))
+      (omega (arith, mul-le-mul_right G h, ap (λ (z : ℕ). z * (q * r)) x, ap (λ (z : ℕ). z * (b * r)) s, ap (λ (z : ℕ). z * (b * q)) y))
       (mul-pos (mul-pos hb hq) hr)
 
   cross_in : 1 ≤ G → l + k ≤ j → m * (b * q) + c * b * r ≤ a * q * r
-  unfolding whole_part
   cross_in some h =
       le_of_mul-le-mul_right {m = m * (b * q) + c * b * r} {n = a * q * r} {k = G}
-      (omega (arith, mul-le-mul_right (b * q * r) h, right_worth, less_worth, left_worth))
+      (omega (arith, mul-le-mul_right (b * q * r) h, ap (λ (z : ℕ). z * (q * r)) x, ap (λ (z : ℕ). z * (b * r)) s, ap (λ (z : ℕ). z * (b * q)) y))
       some
 
 -- ---- A difference of naturals, times r, over the integers and over the naturals
@@ -90,11 +66,11 @@ module _ (A C r : ℕ) where
 
 module _ (G : ℕ) where
   worth_whole : (n : ℕ) → Worth G (whole n) (G * n)
-  worth_whole n = record { n = n; is = refl; proper = omega arith; worth = mul_comm n G ∙ sym (mul-one (G * n)) }
+  worth_whole n = record { n = n; is = refl; proper = omega arith; worth = omega arith }
 
   worth_utilization : (t : TaskRecord) → Bounded widest_grid t → OnGrid G t → Worth G (utilization t) (share G t)
   worth_utilization t h on =
-      record { n = t.work; is = refl; proper = omega arith; worth = mul_comm t.work G ∙ sym (share_exact G t on) }
+      record { n = t.work; is = refl; proper = omega arith; worth = omega (arith, share_exact G t on) }
 
   worth_add : {x y : Fraction} {k l : ℕ} → Worth G x k → Worth G y l → Worth G (x +ᶠ y) (k + l)
   worth_add {x} {y} {k} {l} v w =
