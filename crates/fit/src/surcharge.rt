@@ -1,5 +1,5 @@
 // A test over another one: every work is raised by what a switch between jobs costs.
-ghost use Rattle.std.specs.Prelude.{◌≡◌, ℕ, ◌+◌, ◌≤◌, [], ◌∷◌, ◌++◌, map, length, take, Decides};
+ghost use Rattle.std.specs.Prelude.{◌≡◌, ℕ, ◌+◌, ◌≤◌, [], ◌∷◌, ◌++◌, map, length, take, Decides, ◌<◌, slice_index_or};
 ghost use Rattle.std.proofs.Common.{subst};
 ghost use Rattle.fit.specs.Tests.{CostRange, Held, Room, SurchargeYes, raised};
 ghost use Rattle.std.specs.List.{AllByRecursion};
@@ -8,11 +8,12 @@ ghost use Rattle.tasks.specs.declared.fault.Setting.TheVariants.{SwitchCost};
 ghost use Rattle.tasks.specs.declared.record.TaskRecord.{TaskRecord};
 ghost use Rattle.fit.specs.Copies.{raised_lane};
 ghost use Rattle.fit.specs.Works.{safe_with_larger_works};
-ghost use Rattle.fit.specs.Lane.{SafeTask};
+ghost use Rattle.fit.specs.Lane.{SafeTask, no_task};
 ghost use Rattle.std.proofs.lemmas.List.{length-map};
 
 use crate::askable::{LONGEST_ROW, Question};
 use crate::question::FitTest;
+use std::array;
 use tasks::fault::{ListFault, Setting};
 use tasks::record::TaskRecord;
 
@@ -83,16 +84,22 @@ impl<T: FitTest> Surcharge<T> {
         question.row.iter().all(|t| self.has_room(*t)) && self.has_room(question.asked)
     }
 
+    // What stands in a place of the row with raised works.
+    fn raised_at(&self, question: &Question, place: usize) -> TaskRecord
+        ensures { place < length question.now.row.now → result ≡ raised self.now.cost (slice_index_or question.now.row.now place no_task) }
+    {
+        question
+            .row
+            .get(place)
+            .map_or(NO_TASK, |t| self.raised_task(*t))
+    }
+
     // A question's row with raised works, in the first places of the result.
     fn raised_row(&self, question: &Question) -> [TaskRecord; LONGEST_ROW]
         ensures len { length result ≡ 31 }
         ensures front { take (length question.now.row.now) result ≡ map (raised self.now.cost) question.now.row.now }
     {
-        let mut dear = [NO_TASK; LONGEST_ROW];
-        for (i, t) in question.row.iter().enumerate() {
-            dear[i] = self.raised_task(*t);
-        }
-        dear
+        array::from_fn(|place| self.raised_at(question, place))
     }
 
     // Whether the test below says yes to a question with raised works.
