@@ -1,5 +1,5 @@
 -- The waiting jobs of a task are a gap apart, so a safe task has few of them.
-use Rattle.std.proofs.Common.{◌≡◌, ℕ, zero, suc, ◌+◌, ◌*◌, ◌<◌, ◌≤◌, Bool, true, false, cond, ◌⊎◌, List, [], ◌∷◌, ◌++◌, map, length, get_or, IfSome, Some, None, Option, sym, refl, ap, subst, inl, inr, ⊎_elim, mul-le-mul_right, suc-mul, zero-mul, arith, MatchOption}
+use Rattle.std.proofs.Common.{◌≡◌, ℕ, zero, suc, ◌+◌, ◌*◌, ◌<◌, ◌≤◌, Bool, true, false, cond, ◌⊎◌, List, [], ◌∷◌, ◌++◌, map, length, get_or, IfSome, Some, None, Option, sym, refl, ap, subst, inl, inr, ⊎_elim, mul-le-mul_right, arith, MatchOption}
 use Rattle.std.specs.List.{ContainsAt}
 use Rattle.std.proofs.lemmas.List.{length_push}
 use Rattle.std.proofs.lemmas.Bool.{cases_lt}
@@ -19,9 +19,9 @@ abbrev pub Apart : ℕ → Option ℕ → List Job → Type 0
 Apart gap last jobs = MatchOption last (jobs ≡ []) (λ at. Before gap at jobs)
 
 before_push : (gap last clock : ℕ) (jobs : List Job) → last + gap ≤ clock → Before gap last jobs → Before gap clock (jobs ++ (new_job clock ∷ []))
-before_push gap last clock [] late h = (omega (arith, zero-mul gap), tt)
+before_push gap last clock [] late h = (omega arith, tt)
 before_push gap last clock (j ∷ rest) late h =
-    (omega (arith, h.0, ap (λ (n : ℕ). n * gap) longer, suc-mul (length rest) gap), before_push gap last clock rest late h.1)
+    (omega (arith, ap (λ (n : ℕ). n * gap) longer), before_push gap last clock rest late h.1)
   where
     longer : length (rest ++ (new_job clock ∷ [])) ≡ suc (length rest)
     longer = omega (arith, length_push rest (new_job clock))
@@ -29,7 +29,7 @@ before_push gap last clock (j ∷ rest) late h =
 apart_comes : (gap clock : ℕ) (last : Option ℕ) (jobs : List Job) → Apart gap last jobs → IfSome last (λ at. at + gap ≤ clock) →
     Before gap clock (jobs ++ (new_job clock ∷ []))
 apart_comes gap clock None jobs h may =
-    subst (λ (jobs : List Job). Before gap clock (jobs ++ (new_job clock ∷ []))) (sym h) (omega (arith, zero-mul gap), tt)
+    subst (λ (jobs : List Job). Before gap clock (jobs ++ (new_job clock ∷ []))) (sym h) (omega arith, tt)
 apart_comes gap clock (Some last) jobs h may = before_push gap last clock jobs may h
 
 apart_serves : (gap : ℕ) (last : Option ℕ) (j : Job) (rest : List Job) (closed : Bool) → Apart gap last (j ∷ rest) →
@@ -86,7 +86,7 @@ apart_at (t ∷ row) (s ∷ ss) (suc i) h = apart_at row ss i h.1
 first-release : (gap clock : ℕ) (last : Option ℕ) (j : Job) (rest : List Job) → Apart gap last (j ∷ rest) →
     IfSome last (λ at. at + gap ≤ clock) → j.release + suc (length rest) * gap ≤ clock
 first-release gap clock None j rest h may = absurd (omega (arith, ap length h))
-first-release gap clock (Some last) j rest h may = omega (arith, h.0, may, suc-mul (length rest) gap)
+first-release gap clock (Some last) j rest h may = omega (arith, may)
 
 -- With as many jobs as places the first one would be late.
 full-is-late : (row : List TaskRecord) (i places : ℕ) (l : Lane) → (get_or row i no_task).limit ≤ places * (get_or row i no_task).gap →

@@ -1,5 +1,5 @@
 pub mod Alive
 pub mod Apart
 pub mod Bounds
-pub mod Scans
+pub mod Made
 pub mod Worths

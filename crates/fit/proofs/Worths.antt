@@ -1,5 +1,5 @@
 -- Fractions that are worth whole numbers of G-ths add up and compare as those numbers do, so linear is the standard.
-use Rattle.std.proofs.Common.{◌≡◌, ℕ, ◌+◌, ◌*◌, ◌≤◌, List, [], ◌∷◌, ℤ, pos, ◌+ℤ◌, ◌-ℤ◌, ◌*ℤ◌, neg_ℤ, ◌≤ℤ◌, sum_by, sym, refl, ap, ◌∙◌, subst, mul-le-mul_right, mul_assoc, mul_comm, add-mul, mul-pos, mul-zero, zero-mul, mul-one, mul_right_comm, le_of_mul-le-mul_right, arith}
+use Rattle.std.proofs.Common.{◌≡◌, ℕ, ◌+◌, ◌*◌, ◌≤◌, List, [], ◌∷◌, ℤ, pos, ◌+ℤ◌, ◌-ℤ◌, ◌*ℤ◌, neg_ℤ, ◌≤ℤ◌, sum_by, sym, refl, ap, ◌∙◌, subst, mul-le-mul_right, mul-pos, zero-mul, le_of_mul-le-mul_right, arith}
 use mathlib.Core.Path.{subst₃}
 use borrow.Author.Differences.{at_most_in, down, le_out, neg_is, product_is, sum_is_lem, up}
 use Rattle.fit.specs.Laws.{share_exact}
@@ -21,63 +21,39 @@ record Worth (G : ℕ) (x : Fraction) (k : ℕ) : Type 0 where
 
 -- n/b = k/G and m/q = l/G give (n*q + m*b)/(b*q) = (k + l)/G.
 sum_worth : (G n b k m q l : ℕ) → n * G ≡ k * b → m * G ≡ l * q → (n * q + m * b) * G ≡ (k + l) * (b * q)
-sum_worth G n b k m q l x y = omega (arith, add-mul (n * q) (m * b) G, add-mul k l (b * q), one, other)
-  where
-    one : n * q * G ≡ k * (b * q)
-    one = mul_right_comm n q G ∙ ap (λ (z : ℕ). z * q) x ∙ mul_assoc k b q
-
-    other : m * b * G ≡ l * (b * q)
-    other = mul_right_comm m b G ∙ ap (λ (z : ℕ). z * b) y ∙ mul_assoc l q b ∙ ap (λ (z : ℕ). l * z) (mul_comm q b)
+sum_worth G n b k m q l x y = omega (arith, ap (λ (z : ℕ). z * q) x, ap (λ (z : ℕ). z * b) y)
 
 -- n/b = k/G gives (n*c)/b = (k*c)/G.
 scaled_worth : (G n b k c : ℕ) → n * G ≡ k * b → n * c * G ≡ k * c * (b * 1)
-scaled_worth G n b k c x = mul_right_comm n c G ∙ ap (λ (z : ℕ). z * c) x ∙ mul_right_comm k b c ∙ ap (λ (z : ℕ). k * c * z) (sym (mul-one b))
+scaled_worth G n b k c x = omega (arith, ap (λ (z : ℕ). z * c) x)
 
 -- Where a/b = j/G, c/q = k/G and m/r = l/G, the cross product of a/b - c/q ≥ m/r is j - k ≥ l times b*q*r and over G.
 module _ (G a b j c q k m r l : ℕ) (x : a * G ≡ j * b) (s : c * G ≡ k * q) (y : m * G ≡ l * r) where
-  whole_part : ℕ
-  whole_part = b * q * r
-
-  right_worth : m * (b * q) * G ≡ l * whole_part
-  unfolding whole_part
-  right_worth = mul_right_comm m (b * q) G ∙ ap (λ (z : ℕ). z * (b * q)) y ∙ mul_assoc l r (b * q) ∙ ap (λ (z : ℕ). l * z) (mul_comm r (b * q))
-
-  less_worth : c * b * r * G ≡ k * whole_part
-  unfolding whole_part
-  less_worth =
-      mul_right_comm (c * b) r G ∙ ap (λ (z : ℕ). z * r) (mul_right_comm c b G ∙ ap (λ (z : ℕ). z * b) s ∙ mul_right_comm k q b ∙ mul_assoc k b q) ∙ mul_assoc k (b * q) r
-
-  left_worth : a * q * r * G ≡ j * whole_part
-  unfolding whole_part
-  left_worth = mul_right_comm (a * q) r G ∙ ap (λ (z : ℕ). z * r) (mul_right_comm a q G ∙ ap (λ (z : ℕ). z * q) x ∙ mul_assoc j b q) ∙ mul_assoc j (b * q) r
-
   cross_out : 1 ≤ b → 1 ≤ q → 1 ≤ r → m * (b * q) + c * b * r ≤ a * q * r → l + k ≤ j
-  unfolding whole_part
   cross_out hb hq hr h =
       le_of_mul-le-mul_right {m = l + k} {n = j} {k = b * q * r}
-      (omega (arith, mul-le-mul_right G h, add-mul (m * (b * q)) (c * b * r) G, add-mul l k (b * q * r), right_worth, less_worth, left_worth))
+      (omega (arith, mul-le-mul_right G h, ap (λ (z : ℕ). z * (q * r)) x, ap (λ (z : ℕ). z * (b * r)) s, ap (λ (z : ℕ). z * (b * q)) y))
       (mul-pos (mul-pos hb hq) hr)
 
   cross_in : 1 ≤ G → l + k ≤ j → m * (b * q) + c * b * r ≤ a * q * r
-  unfolding whole_part
   cross_in some h =
       le_of_mul-le-mul_right {m = m * (b * q) + c * b * r} {n = a * q * r} {k = G}
-      (omega (arith, mul-le-mul_right (b * q * r) h, add-mul (m * (b * q)) (c * b * r) G, add-mul l k (b * q * r), right_worth, less_worth, left_worth))
+      (omega (arith, mul-le-mul_right (b * q * r) h, ap (λ (z : ℕ). z * (q * r)) x, ap (λ (z : ℕ). z * (b * r)) s, ap (λ (z : ℕ). z * (b * q)) y))
       some
 
 -- ---- A difference of naturals, times r, over the integers and over the naturals
 
 module _ (A C r : ℕ) where
   parts : up (pos A -ℤ pos C) * r + C * r ≡ down (pos A -ℤ pos C) * r + A * r
-  parts = omega (arith, ap (λ (n : ℕ). n * r) level, add-mul (up (pos A -ℤ pos C)) C r, add-mul (down (pos A -ℤ pos C)) A r)
+  parts = omega (arith, ap (λ (n : ℕ). n * r) level)
     where
       level : up (pos A -ℤ pos C) + C ≡ down (pos A -ℤ pos C) + A
       level = omega (arith, sum_is_lem (pos A) (neg_ℤ (pos C)), neg_is (pos C))
 
   times : (up ((pos A -ℤ pos C) *ℤ pos r) ≡ up (pos A -ℤ pos C) * r) × (down ((pos A -ℤ pos C) *ℤ pos r) ≡ down (pos A -ℤ pos C) * r)
   times = (
-    (product_is (pos A -ℤ pos C) (pos r)).0 ∙ omega (arith, mul-zero (down (pos A -ℤ pos C))),
-    (product_is (pos A -ℤ pos C) (pos r)).1 ∙ omega (arith, mul-zero (up (pos A -ℤ pos C))),
+    (product_is (pos A -ℤ pos C) (pos r)).0 ∙ omega arith,
+    (product_is (pos A -ℤ pos C) (pos r)).1 ∙ omega arith,
   )
 
   minus_out : (M : ℕ) → pos M ≤ℤ ((pos A -ℤ pos C) *ℤ pos r) → M + C * r ≤ A * r
@@ -90,11 +66,11 @@ module _ (A C r : ℕ) where
 
 module _ (G : ℕ) where
   worth_whole : (n : ℕ) → Worth G (whole n) (G * n)
-  worth_whole n = record { n = n; is = refl; proper = omega arith; worth = mul_comm n G ∙ sym (mul-one (G * n)) }
+  worth_whole n = record { n = n; is = refl; proper = omega arith; worth = omega arith }
 
   worth_utilization : (t : TaskRecord) → Bounded widest_grid t → OnGrid G t → Worth G (utilization t) (share G t)
   worth_utilization t h on =
-      record { n = t.work; is = refl; proper = omega arith; worth = mul_comm t.work G ∙ sym (share_exact G t on) }
+      record { n = t.work; is = refl; proper = omega arith; worth = omega (arith, share_exact G t on) }
 
   worth_add : {x y : Fraction} {k l : ℕ} → Worth G x k → Worth G y l → Worth G (x +ᶠ y) (k + l)
   worth_add {x} {y} {k} {l} v w =
@@ -112,7 +88,7 @@ module _ (G : ℕ) where
       record {
         n = v.n * c;
         is = ap (λ (z : ℤ). z *ℤ pos c) v.is;
-        proper = omega (arith, mul-one x.denominator, v.proper);
+        proper = omega arith;
         worth = scaled_worth G v.n x.denominator k c v.worth;
       }
 
@@ -156,7 +132,7 @@ linear_is_the_standard grid row asked range lawful = (
   λ yes_to.
       record {
         inequality_5 = worth_in grid limit lines work range.0 yes_to.in_time;
-        inequality_6 = worth_in grid one shares asked_share range.0 (omega (arith, mul-one grid, yes_to.shares));
+        inequality_6 = worth_in grid one shares asked_share range.0 (omega arith);
       },
   λ by_standard.
       record {
@@ -164,7 +140,7 @@ linear_is_the_standard grid row asked range lawful = (
         row_on_grid = lawful.row_on_grid;
         asked_on_grid = lawful.asked_on_grid;
         in_time = worth_out grid limit lines work by_standard.inequality_5;
-        shares = omega (arith, mul-one grid, worth_out grid one shares asked_share by_standard.inequality_6);
+        shares = omega (arith, worth_out grid one shares asked_share by_standard.inequality_6);
       },
 )
   where

@@ -1,6 +1,6 @@
 -- The account of a busy window: per task, how many of its jobs closed since the window's start, and the slots that it was served.
 use Rattle.std.specs.Prelude.{◌≡◌, ℕ, zero, suc, ◌+◌, ◌*◌, ◌<◌, ◌≤◌, Bool, true, false, cond, ◌⊎◌, List, [], ◌∷◌, ◌++◌, length, Option, nat_le, slice_index_or, refl}
-use Rattle.std.proofs.Common.{sym, ap, subst, ◌∙◌, inl, inr, ⊎_elim, zero-mul, suc-mul, add-mul, one-mul, not-suc-le-zero, le_of_suc-le-suc, arith}
+use Rattle.std.proofs.Common.{sym, ap, subst, ◌∙◌, inl, inr, ⊎_elim, zero-mul, add-mul, one-mul, not-suc-le-zero, le_of_suc-le-suc, arith}
 use Rattle.std.specs.List.{ContainsAt, AllByRecursion}
 use Rattle.std.proofs.ByRecursion.{All-push}
 use Rattle.std.proofs.lemmas.List.{length_push}
@@ -70,15 +70,9 @@ unfinished_push work (j ∷ rest) clock h u = (u.0, All-push (λ k. k.served ≡
 
 spaced_push : (from gap closed : ℕ) (jobs : List Job) (clock : ℕ) → Spaced from gap closed jobs →
     from + (closed + length jobs) * gap ≤ clock → Spaced from gap closed (jobs ++ (new_job clock ∷ []))
-spaced_push from gap closed [] clock s h = (omega (arith, ap (λ (n : ℕ). n * gap) same), tt)
-  where
-    same : closed + 0 ≡ closed
-    same = omega arith
+spaced_push from gap closed [] clock s h = (omega arith, tt)
 spaced_push from gap closed (j ∷ rest) clock s h =
-    (s.0, spaced_push from gap (closed + 1) rest clock s.1 (omega (arith, ap (λ (n : ℕ). n * gap) same)))
-  where
-    same : closed + suc (length rest) ≡ closed + 1 + length rest
-    same = omega arith
+    (s.0, spaced_push from gap (closed + 1) rest clock s.1 (omega arith))
 
 -- The task releases a job.
 pub account_comes : {from clock closed served : ℕ} {t : TaskRecord} {s : Standing} → Proper t → from ≤ clock → MayRelease clock t s →
@@ -111,7 +105,7 @@ account_goes_on : {from clock closed served : ℕ} {t : TaskRecord} (last : Opti
     Account from clock t (record { last = last; waiting = served_once j ∷ rest }) closed (served + 1)
 account_goes_on last j rest under h =
     record {
-      within = omega (arith, h.within);
+      within = omega arith;
       unfinished = (under, h.unfinished.1);
       spaced = h.spaced;
       next = h.next;
@@ -120,7 +114,7 @@ account_goes_on last j rest under h =
 
 rest_unfinished : (work : ℕ) (jobs : List Job) → 1 ≤ work → AllByRecursion (λ k. k.served ≡ 0) jobs → Unfinished work jobs
 rest_unfinished work [] h fresh = tt
-rest_unfinished work (j ∷ rest) h fresh = (omega (arith, fresh.0), fresh.1)
+rest_unfinished work (j ∷ rest) h fresh = (omega arith, fresh.1)
 
 -- The first waiting job was served and closes.
 account_closes : {from clock closed served : ℕ} {t : TaskRecord} (last : Option ℕ) (j : Job) (rest : List Job) → Proper t →
@@ -128,15 +122,12 @@ account_closes : {from clock closed served : ℕ} {t : TaskRecord} (last : Optio
     Account from clock t (record { last = last; waiting = rest }) (closed + 1) (served + 1)
 account_closes {from} {clock} {closed} {served} {t} last j rest proper h =
     record {
-      within = omega (arith, h.within, h.unfinished.0, add-mul closed 1 t.work, one-mul t.work);
+      within = omega arith;
       unfinished = rest_unfinished t.work rest proper.0 h.unfinished.1;
       spaced = h.spaced.1;
-      next = λ at late may. omega (arith, ap (λ (n : ℕ). n * t.gap) same, h.next at late may);
-      before = omega (arith, ap (λ (n : ℕ). n * t.gap) same, h.before);
+      next = λ at late may. omega (arith, h.next at late may);
+      before = omega arith;
     }
-  where
-    same : closed + suc (length rest) ≡ closed + 1 + length rest
-    same = omega arith
 
 -- A slot of service: the job closes, or it waits on.
 pub account_serves : {from clock closed served : ℕ} {t : TaskRecord} {s : Standing} (said : Bool) (w : Waiting s) → Proper t →
@@ -173,27 +164,21 @@ account_served {closed = closed} said w proper h =
 
 begun_within : (work : ℕ) (jobs : List Job) → Unfinished work jobs → begun jobs ≤ length jobs * work
 begun_within work [] u = omega arith
-begun_within work (j ∷ rest) u = omega (arith, u.0, suc-mul (length rest) work)
+begun_within work (j ∷ rest) u = omega arith
 
 -- The task was served at most the works of its releases in the window.
 pub served_within : {from clock closed served : ℕ} {t : TaskRecord} {s : Standing} →
     Account from clock t s closed served → served ≤ (closed + length s.waiting) * t.work
 served_within {closed = closed} {t = t} {s = s} h =
     omega
-    (arith, h.within, begun_within t.work s.waiting h.unfinished, add-mul closed (length s.waiting) t.work)
+    (arith, begun_within t.work s.waiting h.unfinished)
 
 spaced_at : (from gap closed : ℕ) (jobs : List Job) (i : ℕ) (d : Job) → Spaced from gap closed jobs → i < length jobs →
     from + (closed + i) * gap ≤ (slice_index_or jobs i d).release
 spaced_at from gap closed [] i d s h = absurd (not-suc-le-zero h)
-spaced_at from gap closed (j ∷ rest) zero d s h = omega (arith, s.0, ap (λ (n : ℕ). n * gap) same)
-  where
-    same : closed + 0 ≡ closed
-    same = omega arith
+spaced_at from gap closed (j ∷ rest) zero d s h = omega arith
 spaced_at from gap closed (j ∷ rest) (suc i) d s h =
-    omega (arith, spaced_at from gap (closed + 1) rest i d s.1 (le_of_suc-le-suc h), ap (λ (n : ℕ). n * gap) same)
-  where
-    same : closed + suc i ≡ closed + 1 + i
-    same = omega arith
+    omega (arith, spaced_at from gap (closed + 1) rest i d s.1 (le_of_suc-le-suc h))
 
 begun_short : (work : ℕ) (jobs : List Job) → 1 ≤ length jobs → Unfinished work jobs → begun jobs < work
 begun_short work [] h u = absurd (not-suc-le-zero h)
@@ -211,22 +196,18 @@ waiting_release {from} {clock} {closed} {served} {t} {s} job h has = (closed + h
         (spaced_at from t.gap closed s.waiting has.0 job h.spaced has.1)
 
     some : 1 ≤ length s.waiting
-    some = omega (arith, has.1)
+    some = omega arith
 
     short : served < (closed + has.0 + 1) * t.work
     short =
         omega (
           arith,
-          h.within,
           begun_short t.work s.waiting some h.unfinished,
-          add-mul (closed + has.0) 1 t.work,
-          add-mul closed has.0 t.work,
-          one-mul t.work,
         )
 
 -- A task that has closed no job was served less than its work.
 pub served_short : {from clock served : ℕ} {t : TaskRecord} {s : Standing} → 1 ≤ t.work → Account from clock t s 0 served → served < t.work
-served_short {t = t} {s = s} some h = omega (arith, h.within, zero-mul t.work, short s.waiting h.unfinished)
+served_short {t = t} {s = s} some h = omega (arith, short s.waiting h.unfinished)
   where
     short : (jobs : List Job) → Unfinished t.work jobs → begun jobs < t.work
     short [] u = some

@@ -1,6 +1,6 @@
 -- The exact rule: with a gap no shorter than the time, no busy window of a lane reaches the time, and so no job waits for it.
 use Rattle.std.specs.Prelude.{◌≡◌, ℕ, ◌+◌, ◌*◌, ◌<◌, ◌≤◌, Bool, true, false, cond, ◌⊎◌, List, [], ◌∷◌, length, sum_by}
-use Rattle.std.proofs.Common.{ap, ◌∙◌, inl, inr, add-mul, one-mul, mul-le-mul_right, lt_of_mul-lt-mul_right, arith}
+use Rattle.std.proofs.Common.{ap, ◌∙◌, inl, inr, mul-le-mul_right, lt_of_mul-lt-mul_right, arith}
 use Rattle.std.specs.List.{AllByRecursion}
 use Rattle.std.proofs.lemmas.List.{length_push, nil_from_length}
 use Rattle.std.proofs.lemmas.List.Sums.{sum_by-cons}
@@ -23,7 +23,6 @@ row_count time count from clock (t ∷ row) [] total short counts h = elim h [ ]
 row_count time count from clock (t ∷ row) (s ∷ ss) total short counts h =
     omega (
       arith,
-      h.3,
       served_within h.4,
       mul-le-mul_right t.work counted,
       row_count time count from clock row ss h.2 short counts.1 h.5,
@@ -33,7 +32,7 @@ row_count time count from clock (t ∷ row) (s ∷ ss) total short counts h =
     fewer : h.0 + length s.waiting < count t + 1
     fewer =
         lt_of_mul-lt-mul_right t.gap
-        (omega (arith, h.4.before, counts.0, add-mul (count t) 1 t.gap, one-mul t.gap))
+        (omega arith)
 
     counted : h.0 + length s.waiting ≤ count t
     counted = omega (arith, fewer)
@@ -69,7 +68,7 @@ module _ (row : List TaskRecord) (asked : TaskRecord) (time : ℕ) (count : Task
         asked_account = account_start from asked a rule.one e;
         at_most_one = omega (arith, ap length e);
         full = omega arith;
-        short = omega (arith, rule.one.0, rule.fits);
+        short = omega arith;
       }
 
   -- A window that reaches the time would leave no slot unserved, and yet the works that it can have do not fill it.
@@ -87,7 +86,7 @@ module _ (row : List TaskRecord) (asked : TaskRecord) (time : ℕ) (count : Task
         full = full;
         short =
             omega
-            (arith, full, rule.fits, row_count time count from clock row rs total near rule.counts accounts, served_short rule.one.0 account);
+            (arith, row_count time count from clock row rs total near rule.counts accounts, served_short rule.one.0 account);
       }
 
   -- The last task releases no second job in such a window.
@@ -96,13 +95,10 @@ module _ (row : List TaskRecord) (asked : TaskRecord) (time : ℕ) (count : Task
   few_after_release v (stays no_more) = v.at_most_one
   few_after_release {clock} {a = a} v (comes may no_more) = omega (arith, length_push a.waiting (record { release = clock; served = 0 }), none)
     where
-      same : 0 + length a.waiting ≡ length a.waiting
-      same = omega arith
-
       none : length a.waiting < 1
       none =
           lt_of_mul-lt-mul_right asked.gap
-          (omega (arith, v.asked_account.next clock (omega (arith, v.full)) may, v.short, rule.within_gap, one-mul asked.gap, ap (λ (n : ℕ). n * asked.gap) same))
+          (omega (arith, v.asked_account.next clock (omega arith) may))
 
   -- The last task is served: its job waits on, or it closes and then nothing waits.
   after_asked : {clock : ℕ} {rs rs' : List Standing} {a a' : Standing} (v : Short row asked time clock rs a) →
@@ -118,7 +114,7 @@ module _ (row : List TaskRecord) (asked : TaskRecord) (time : ℕ) (count : Task
       waiting b e = ap (λ (b : Bool). cond b w.rest (served_once w.first ∷ w.rest)) e
 
       late : v.from ≤ clock
-      late = omega (arith, v.full)
+      late = omega arith
 
       go :
           ((closes asked said (served_once w.first) ≡ true)
@@ -131,32 +127,32 @@ module _ (row : List TaskRecord) (asked : TaskRecord) (time : ℕ) (count : Task
           (waiting true closed.0 ∙ nil_from_length w.rest alone)
       go (inr on) =
           stays_short v.from (clock + 1) v.total (v.served + 1) rs' (after_service asked said a' w.first w.rest)
-          (omega (arith, v.short))
+          (omega arith)
           (accounts_releases v.from v.total rule.proper late r v.row_accounts)
           on.1
           (omega (arith, ap length (waiting false on.0), alone))
-          (omega (arith, v.full))
+          (omega arith)
 
   short_window : {clock : ℕ} {rs : List Standing} {a : Standing} → Beside row asked clock rs a → Short row asked time clock rs a
   short_window (begins {clock = clock} {rs = rs} {a = a} h idle e) = restarts clock rs a h idle e
   short_window (row_slot {clock = clock} {rs' = rs'} {a' = a'} b r release busy said) =
       let v = short_window b in
-      let late : v.from ≤ clock = omega (arith, v.full) in
-      stays_short v.from (clock + 1) (v.total + 1) v.served _ a' (omega (arith, v.short))
+      let late : v.from ≤ clock = omega arith in
+      stays_short v.from (clock + 1) (v.total + 1) v.served _ a' (omega arith)
       (accounts_serve v.from (clock + 1) said row rs' v.total rule.proper busy
       (accounts_releases v.from v.total rule.proper late r v.row_accounts))
       (account_release v.from rule.one late release v.asked_account)
       (few_after_release v release)
-      (omega (arith, v.full))
+      (omega arith)
   short_window (asked_slot {clock = clock} b r release idle w said) =
       let v = short_window b in
-      let late : v.from ≤ clock = omega (arith, v.full) in
+      let late : v.from ≤ clock = omega arith in
       after_asked v r (few_after_release v release) (account_release v.from rule.one late release v.asked_account) idle w said
   short_window (idle_slot {clock = clock} {rs' = rs'} {a' = a'} b r release idle e) =
       restarts (clock + 1) rs' a' (length_releases r) idle e
 
 pub exact_rule : CountsBoundWaiting
-exact_rule row asked time count within_gap proper one counts fits late = omega (arith, late.past, v.short, j.1)
+exact_rule row asked time count within_gap proper one counts fits late = omega (arith, v.short, j.1)
   where
     l : Seen row asked late.lane
     l = seen row asked late.reached

@@ -1,6 +1,6 @@
 -- A yes of the linear or the exact test keeps the law of a fit test, by the share rule and the exact rule.
 use Rattle.std.specs.Prelude.{◌≡◌, ℕ, ◌*◌, ◌/◌, ◌≤◌, List, [], ◌∷◌, ◌++◌, length}
-use Rattle.std.proofs.Common.{ap, ◌∙◌, mul_assoc, mul_comm, arith}
+use Rattle.std.proofs.Common.{ap, arith}
 use Rattle.fit.specs.Counts.{exact_rule}
 use Rattle.fit.specs.Rounding.{covers}
 use Rattle.fit.specs.Safe.{bounded_is_proper, safe_if_none_waits}
@@ -19,7 +19,7 @@ all_proper = All-weaker (Bounded widest_grid) Proper (bounded_is_proper widest_g
 
 -- Where the gap divides the grid, the share is the fraction itself.
 pub share_exact : (grid : ℕ) (t : TaskRecord) → OnGrid grid t → share grid t * t.gap ≡ grid * t.work
-share_exact grid t on = mul_assoc t.work (grid / t.gap) t.gap ∙ ap (λ n. t.work * n) whole ∙ mul_comm t.work grid
+share_exact grid t on = omega (arith, ap (λ n. t.work * n) whole)
   where
     whole : grid / t.gap * t.gap ≡ grid
     whole = omega (arith, div-add-mod' grid t.gap, on)

@@ -1,38 +1,21 @@
 -- The rounded-up quotient is the least number of gaps that covers a time, and grows with the time.
-use Rattle.std.specs.Prelude.{◌≡◌, ℕ, ◌+◌, ◌*◌, ◌/◌, ◌%◌, ◌<◌, ◌≤◌, min, List, sum_by}
-use Rattle.std.proofs.Common.{⊎_elim, ap, add-mul, one-mul, mul-le-mul_right, arith}
+use Rattle.std.specs.Prelude.{ℕ, ◌+◌, ◌*◌, ◌<◌, ◌≤◌, List, sum_by}
+use Rattle.std.proofs.Common.{lt_of_mul-lt-mul_right, mul-le-mul_right, arith}
 use Rattle.fit.specs.Totals.{sum_by_grows}
 use Rattle.fit.specs.Tests.{Askable, RoundingUpCovers, requests, rounded_up}
-use Rattle.std.proofs.lemmas.Nat.{div-add-mod', mod_below, mul-le}
-use Rattle.std.proofs.lemmas.Bool.{cases_lt}
+use Rattle.std.proofs.lemmas.Grind.{div_ceil_times}
 use Rattle.std.proofs.ByRecursion.{All-weaker}
 use Rattle.tasks.specs.Task.{Bounded, widest_grid}
 use Rattle.tasks.specs.declared.record.TaskRecord.{TaskRecord}
 
 module _ (time gap : ℕ) (some : 1 ≤ gap) where
   pub covers : time ≤ rounded_up time gap * gap
-  covers =
-      omega (arith, div-add-mod' time gap, mod_below time gap some, add-mul (time / gap) (min 1 (time % gap)) gap, cover (time % gap) (mod_below time gap some))
-    where
-      cover : (rest : ℕ) → rest < gap → rest ≤ min 1 rest * gap
-      cover rest h =
-          ⊎_elim
-          (λ (left : 0 < rest). let one : min 1 rest ≡ 1 = omega arith in omega (arith, ap (λ n. n * gap) one, one-mul gap))
-          (λ (none : rest ≤ 0). omega arith)
-          (cases_lt 0 rest)
+  covers = (div_ceil_times time gap some).0
 
   pub least : (k : ℕ) → time ≤ k * gap → rounded_up time gap ≤ k
   least k h =
-      ⊎_elim (λ (lt : time / gap < k). omega arith)
-      (λ (ge : k ≤ time / gap). ⊎_elim (λ (lt : k < time / gap). absurd (too_many lt)) (λ (le : time / gap ≤ k). level (omega arith)) (cases_lt k (time / gap)))
-      (cases_lt (time / gap) k)
-    where
-      too_many : k < time / gap → ⊥
-      too_many lt =
-          omega (arith, mul-le (k + 1) gap (time / gap) gap (omega arith) (omega arith), add-mul k 1 gap, one-mul gap, div-add-mod' time gap)
-
-      level : time / gap ≡ k → rounded_up time gap ≤ k
-      level e = omega (arith, ap (λ n. n * gap) e, div-add-mod' time gap)
+      let below : rounded_up time gap < k + 1 = lt_of_mul-lt-mul_right gap (omega (arith, (div_ceil_times time gap some).1)) in
+      omega (arith, below)
 
 pub rounding_up_covers : RoundingUpCovers
 rounding_up_covers time gap some = record { covers = covers time gap some; least = least time gap some }

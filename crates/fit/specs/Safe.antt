@@ -10,7 +10,7 @@ use Rattle.fit.specs.Theorems.{Proper}
 -- What waits for a time waits for any shorter one.
 pub waits_less : (row : List TaskRecord) (i time limit : ℕ) → time ≤ limit → WaitsPast row i limit → WaitsPast row i time
 waits_less row i time limit h late =
-    record { lane = late.lane; reached = late.reached; job = late.job; waits = late.waits; past = omega (arith, late.past) }
+    record { lane = late.lane; reached = late.reached; job = late.job; waits = late.waits; past = omega arith }
 
 -- The last task is safe if none of its jobs waits for a time within its limit.
 pub safe_if_none_waits : (row : List TaskRecord) (asked : TaskRecord) (time : ℕ) → time ≤ asked.limit →
@@ -22,4 +22,4 @@ safe_if_none_waits row asked time h none late =
 
 -- A record within its bounds has some work and a gap.
 pub bounded_is_proper : (widest : ℕ) (t : TaskRecord) → Bounded widest t → Proper t
-bounded_is_proper widest t h = (h.0.0, omega (arith, h.0))
+bounded_is_proper widest t h = (h.0.0, omega arith)

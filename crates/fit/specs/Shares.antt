@@ -1,6 +1,6 @@
 -- The share rule: over any scale and any shares that are at least their fractions, no job waits for the time that the rule gives.
 use Rattle.std.specs.Prelude.{◌≡◌, ℕ, zero, suc, ◌+◌, ◌-◌, ◌*◌, ◌<◌, ◌≤◌, List, [], ◌∷◌, length, sum_by}
-use Rattle.std.proofs.Common.{ap, mul-zero, zero-mul, suc-mul, mul-add, add-mul, mul-one, one-mul, mul_left_comm, mul-le-mul_left, mul-le-mul_right, arith}
+use Rattle.std.proofs.Common.{ap, suc-mul, mul-le-mul_left, mul-le-mul_right, arith}
 use Rattle.std.specs.List.{AllByRecursion}
 use Rattle.std.proofs.lemmas.List.Sums.{sum_by-cons}
 use Rattle.tasks.specs.declared.record.TaskRecord.{TaskRecord}
@@ -13,56 +13,51 @@ use Rattle.fit.specs.Window.{Accounts, Window, window}
 -- Slots within n works, where n gaps reach at most one gap past `span`, are within one work and the share of `span`.
 share_covers : (scale share work gap n slots span : ℕ) → scale * work ≤ share * gap → slots ≤ n * work → n * gap ≤ span + gap →
     scale * slots ≤ scale * work + share * span
-share_covers scale share work gap zero slots span covers within spaced = omega (arith, mul-le-mul_left scale none, mul-zero scale)
+share_covers scale share work gap zero slots span covers within spaced = omega (arith, mul-le-mul_left scale none)
   where
     none : slots ≤ 0
-    none = omega (arith, zero-mul work)
+    none = omega arith
 share_covers scale share work gap (suc n) slots span covers within spaced =
     omega (
       arith,
       mul-le-mul_left scale within,
       ap (λ (m : ℕ). scale * m) (suc-mul n work),
-      mul-add scale (n * work) work,
-      mul_left_comm scale n work,
       mul-le-mul_left n covers,
-      mul_left_comm n share gap,
       mul-le-mul_left share before,
     )
   where
     before : n * gap ≤ span
-    before = omega (arith, suc-mul n gap)
+    before = omega arith
 
 -- The row was served at most, of each task, its work and its share of the window.
 row_share : (scale : ℕ) (share : TaskRecord → ℕ) (from clock span : ℕ) (row : List TaskRecord) (ss : List Standing) (total : ℕ) →
     from + span ≡ clock → AllByRecursion (Covers scale share) row → Accounts from clock row ss total →
     scale * total ≤ sum_by (λ t. scale * t.work + share t * span) row
-row_share scale share from clock span [] [] total e covers h = omega (arith, ap (λ (n : ℕ). scale * n) h, mul-zero scale)
+row_share scale share from clock span [] [] total e covers h = omega (arith, ap (λ (n : ℕ). scale * n) h)
 row_share scale share from clock span [] (s ∷ ss) total e covers h = elim h [ ]
 row_share scale share from clock span (t ∷ row) [] total e covers h = elim h [ ]
 row_share scale share from clock span (t ∷ row) (s ∷ ss) total e covers h =
     omega (
       arith,
       ap (λ (n : ℕ). scale * n) h.3,
-      mul-add scale h.1 h.2,
       share_covers scale (share t) t.work t.gap (h.0 + length s.waiting) h.1 span covers.0 (served_within h.4) spaced,
       row_share scale share from clock span row ss h.2 e covers.1 h.5,
       sum_by-cons (λ (t : TaskRecord). scale * t.work + share t * span) t row,
     )
   where
     spaced : (h.0 + length s.waiting) * t.gap ≤ span + t.gap
-    spaced = omega (arith, h.4.before)
+    spaced = omega arith
 
 -- Works and shares of a time, added up apart.
 shares_apart : (scale : ℕ) (share : TaskRecord → ℕ) (time : ℕ) (row : List TaskRecord) →
     sum_by (λ t. scale * t.work + share t * time) row ≡ sum_by (λ t. scale * t.work) row + sum_by share row * time
-shares_apart scale share time [] = omega (arith, zero-mul time)
+shares_apart scale share time [] = omega arith
 shares_apart scale share time (t ∷ row) =
     omega (
       arith,
       sum_by-cons (λ (t : TaskRecord). scale * t.work + share t * time) t row,
       sum_by-cons (λ (t : TaskRecord). scale * t.work) t row,
       ap (λ (n : ℕ). n * time) (sum_by-cons share t row),
-      add-mul (share t) (sum_by share row) time,
       shares_apart scale share time row,
     )
 
@@ -78,18 +73,9 @@ shares_refuse : (scale asked_share work_sum share_sum asked_work lead time more 
 shares_refuse scale asked_share work_sum share_sum asked_work lead time more slots asked_slots some first second row asked full =
     omega (
       arith,
-      mul-add share_sum lead (time + more),
-      mul-add share_sum time more,
-      mul-add scale asked_slots 1,
-      mul-one scale,
       ap (λ (n : ℕ). scale * n) full,
-      mul-add scale slots asked_slots,
-      mul-add scale lead (time + more),
-      mul-add scale time more,
       mul-le-mul_right lead second,
-      add-mul asked_share share_sum lead,
       mul-le-mul_right more second,
-      add-mul asked_share share_sum more,
     )
 
 pub share_rule : SharesBoundWaiting
@@ -122,7 +108,7 @@ share_rule scale share row asked time some proper one covers covered first secon
     more = late.lane.clock - (late.job.release + time)
 
     span : v.from + (lead + (time + more)) ≡ late.lane.clock
-    span = omega (arith, late.past, j.1)
+    span = omega (arith, j.1)
 
     behind : (j.0 + 1) * asked.gap ≤ lead + asked.gap
-    behind = omega (arith, j.1, add-mul j.0 1 asked.gap, one-mul asked.gap)
+    behind = omega (arith, j.1)

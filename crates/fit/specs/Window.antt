@@ -41,10 +41,10 @@ accounts_serve from clock said row [] total proper busy h = elim busy [ ]
 accounts_serve from clock said [] (s ∷ ss) total proper busy h = elim h [ ]
 accounts_serve from clock said (t ∷ row) (s ∷ ss) total proper (inl w) h =
     subst (λ (after : List Standing). Accounts from clock (t ∷ row) after (total + 1)) (sym (serve_waiting said t row s ss w))
-    (let a = account_served said w proper.0 h.4 in (a.0, h.1 + 1, h.2, omega (arith, h.3), a.1, h.5))
+    (let a = account_served said w proper.0 h.4 in (a.0, h.1 + 1, h.2, omega arith, a.1, h.5))
 accounts_serve from clock said (t ∷ row) (s ∷ ss) total proper (inr b) h =
     subst (λ (after : List Standing). Accounts from clock (t ∷ row) after (total + 1)) (sym (serve_idle said t row s ss b.0))
-    (h.0, h.1, h.2 + 1, omega (arith, h.3), h.4, accounts_serve from clock said row ss h.2 proper.1 b.1 h.5)
+    (h.0, h.1, h.2 + 1, omega arith, h.4, accounts_serve from clock said row ss h.2 proper.1 b.1 h.5)
 
 -- The last task releases a job, or it does not.
 pub account_release : {clock closed served : ℕ} {asked : TaskRecord} {a a' : Standing} (from : ℕ) → Proper asked → from ≤ clock →
@@ -82,7 +82,7 @@ pub window : {row : List TaskRecord} {asked : TaskRecord} {clock : ℕ} {rs : Li
 window {clock = clock} {rs = rs} {a = a} proper one (begins h idle e) = starts_here clock rs a proper one h idle e
 window {row} proper one (row_slot {clock = clock} {rs' = rs'} b r release busy said) =
     let v = window proper one b in
-    let late : v.from ≤ clock = omega (arith, v.full) in
+    let late : v.from ≤ clock = omega arith in
     record {
       from = v.from;
       total = v.total + 1;
@@ -92,11 +92,11 @@ window {row} proper one (row_slot {clock = clock} {rs' = rs'} b r release busy s
           accounts_serve v.from (clock + 1) said row rs' v.total proper busy
           (accounts_releases v.from v.total proper late r v.row_accounts);
       asked_account = account_release v.from one late release v.asked_account;
-      full = omega (arith, v.full);
+      full = omega arith;
     }
 window {row} proper one (asked_slot {clock = clock} {rs' = rs'} b r release idle w said) =
     let v = window proper one b in
-    let late : v.from ≤ clock = omega (arith, v.full) in
+    let late : v.from ≤ clock = omega arith in
     let a = account_served said w one (account_release v.from one late release v.asked_account) in
     record {
       from = v.from;
@@ -105,7 +105,7 @@ window {row} proper one (asked_slot {clock = clock} {rs' = rs'} b r release idle
       served = v.served + 1;
       row_accounts = accounts_releases v.from v.total proper late r v.row_accounts;
       asked_account = a.1;
-      full = omega (arith, v.full);
+      full = omega arith;
     }
 window {a = a} proper one (idle_slot {clock = clock} {rs' = rs'} b r release idle e) =
     starts_here (clock + 1) rs' a proper one (length_releases r) idle e

@@ -7,7 +7,7 @@ use crate::question::FitTest;
 use tasks::record::TaskRecord;
 
 // Says yes where at least one of its two tests does.
-#[derive(Drop)]
+#[derive(Drop, Debug, PartialEq, Eq)]
 pub struct Either<A, B> {
     pub first: A,
     pub second: B,

@@ -8,14 +8,14 @@ ghost use Rattle.tasks.specs.declared.fault.Setting.TheVariants.{Grid};
 ghost use Rattle.tasks.specs.declared.record.TaskRecord.{TaskRecord};
 ghost use Rattle.fit.specs.Laws.{linear_safe};
 
-use crate::askable::askable;
+use crate::askable::Question;
 use crate::question::FitTest;
 use tasks::fault::{ListFault, Setting};
 use tasks::record::TaskRecord;
 use tasks::task::WIDEST_GRID;
 
 // The linear test over a grid, which every gap must divide.
-#[derive(Clone, Copy)]
+#[derive(Clone, Copy, Debug, PartialEq, Eq)]
 pub struct Linear {
     grid: u32,
     ghost in_range: { GridRange grid },
@@ -40,111 +40,63 @@ impl Linear {
     {
         self.grid
     }
-}
 
-// Whether a task's gap divides the grid.
-fn on_grid(grid: u32, t: TaskRecord) -> bool
-    requires { Bounded widest_grid t }
-    ensures { Decides result (OnGrid grid t) }
-{
-    grid % t.gap == 0
-}
-
-// Whether every gap of a row divides the grid.
-fn all_on_grid(grid: u32, row: &[TaskRecord]) -> bool
-    requires { AllByRecursion (Bounded widest_grid) row.now }
-    ensures { Decides result (AllByRecursion (OnGrid grid) row.now) }
-{
-    for t in row {
-        if !on_grid(grid, *t) {
-            return false;
-        }
+    // A task's share of the lane, in parts of the grid: at most the whole.
+    fn share_of(&self, t: TaskRecord) -> u64
+        requires { Bounded widest_grid t }
+        ensures value { result ≡ share self.now.grid t }
+        ensures bound { result ≤ widest_grid }
+    {
+        t.work as u64 * (self.grid / t.gap) as u64
     }
-    true
-}
 
-// A task's share of the lane, in parts of the grid: at most the whole.
-fn share_of(grid: u32, t: TaskRecord) -> u64
-    requires in_range { GridRange grid }
-    requires bounded { Bounded widest_grid t }
-    ensures value { result ≡ share grid t }
-    ensures bound { result ≤ widest_grid }
-{
-    t.work as u64 * (grid / t.gap) as u64
-}
-
-// The shares of a row together.
-fn shares_of(grid: u32, row: &[TaskRecord]) -> u64
-    requires in_range { GridRange grid }
-    requires short { length row.now ≤ 31 }
-    requires bounded { AllByRecursion (Bounded widest_grid) row.now }
-    ensures value { result ≡ sum_by (share grid) row.now }
-    ensures bound { result ≤ 31 * widest_grid }
-{
-    let mut sum = 0;
-    for t in row {
-        sum += share_of(grid, *t);
+    // The bound on the work that a task asks for within a time, in parts of the grid.
+    fn line_of(&self, t: TaskRecord, time: u32) -> u64
+        requires in_time { time ≤ 2 ^ 20 }
+        requires bounded { Bounded widest_grid t }
+        ensures value { result ≡ line self.now.grid time t }
+        ensures bound { result ≤ 2 ^ 45 }
+    {
+        let work = self.grid as u64 * t.work as u64;
+        work + self.share_of(t) * time as u64
     }
-    sum
-}
 
-// The bound on the work that a task asks for within a time, in parts of the grid.
-fn line_of(grid: u32, time: u32, t: TaskRecord) -> u64
-    requires in_range { GridRange grid }
-    requires in_time { time ≤ 2 ^ 20 }
-    requires bounded { Bounded widest_grid t }
-    ensures value { result ≡ line grid time t }
-    ensures bound { result ≤ 2 ^ 45 }
-{
-    grid as u64 * t.work as u64 + share_of(grid, t) * time as u64
-}
-
-// The bounds of a row together.
-fn lines_of(grid: u32, time: u32, row: &[TaskRecord]) -> u64
-    requires in_range { GridRange grid }
-    requires in_time { time ≤ 2 ^ 20 }
-    requires short { length row.now ≤ 31 }
-    requires bounded { AllByRecursion (Bounded widest_grid) row.now }
-    ensures value { result ≡ sum_by (line grid time) row.now }
-    ensures bound { result ≤ 31 * 2 ^ 45 }
-{
-    let mut sum = 0;
-    for t in row {
-        sum += line_of(grid, time, *t);
+    // Whether every gap of a question divides the grid.
+    fn all_on_grid(&self, question: &Question) -> bool
+        ensures { Decides result (AllByRecursion (OnGrid self.now.grid) question.now.row.now × OnGrid self.now.grid question.now.asked) }
+    {
+        question.row.iter().all(|t| self.grid % t.gap == 0) && self.grid % question.asked.gap == 0
     }
-    sum
-}
 
-// Whether the asked task's work fits its limit beside the row (inequality 5).
-fn in_time(grid: u32, row: &[TaskRecord], asked: TaskRecord) -> bool
-    requires in_range { GridRange grid }
-    requires askable { Askable row.now asked }
-    ensures { Decides result (grid * asked.work + sum_by (line grid asked.limit) row.now ≤ grid * asked.limit) }
-{
-    let work = grid as u64 * asked.work as u64;
-    let room = grid as u64 * asked.limit as u64;
-    work + lines_of(grid, asked.limit, row) <= room
-}
+    // Whether the asked task's work fits its limit beside the row (inequality 5).
+    fn in_time(&self, question: &Question) -> bool
+        ensures { Decides result (self.now.grid * question.now.asked.work + sum_by (line self.now.grid question.now.asked.limit) question.now.row.now ≤ self.now.grid * question.now.asked.limit) }
+    {
+        let asked = question.asked;
+        let work = self.grid as u64 * asked.work as u64;
+        let room = self.grid as u64 * asked.limit as u64;
+        let lines: u64 = question
+            .row
+            .iter()
+            .map(|t| self.line_of(*t, asked.limit))
+            .sum();
+        work + lines <= room
+    }
 
-// Whether the shares fit the lane (inequality 6).
-fn shares_fit(grid: u32, row: &[TaskRecord], asked: TaskRecord) -> bool
-    requires in_range { GridRange grid }
-    requires askable { Askable row.now asked }
-    ensures { Decides result (share grid asked + sum_by (share grid) row.now ≤ grid) }
-{
-    share_of(grid, asked) + shares_of(grid, row) <= grid as u64
-}
+    // Whether the shares fit the lane (inequality 6).
+    fn shares_fit(&self, question: &Question) -> bool
+        ensures { Decides result (share self.now.grid question.now.asked + sum_by (share self.now.grid) question.now.row.now ≤ self.now.grid) }
+    {
+        let shares: u64 = question.row.iter().map(|t| self.share_of(*t)).sum();
+        self.share_of(question.asked) + shares <= self.grid as u64
+    }
 
-// Whether the test over this grid says yes.
-fn says_yes(grid: u32, row: &[TaskRecord], asked: TaskRecord) -> bool
-    requires { GridRange grid }
-    ensures { Decides result (LinearYes grid row.now asked) }
-{
-    askable(row, asked)
-        && on_grid(grid, asked)
-        && all_on_grid(grid, row)
-        && in_time(grid, row, asked)
-        && shares_fit(grid, row, asked)
+    // Whether the test says yes to a question.
+    fn says_yes(&self, question: &Question) -> bool
+        ensures { Decides result (LinearYes self.now.grid question.now.row.now question.now.asked) }
+    {
+        self.all_on_grid(question) && self.in_time(question) && self.shares_fit(question)
+    }
 }
 
 impl FitTest for Linear {
@@ -157,6 +109,6 @@ impl FitTest for Linear {
         ensures answer { Decides result (LinearYes self.now.grid row.now asked) }
         ensures standard { LawfulQuestion self.now.grid row.now asked → Decides result (Standard row.now asked) }
     {
-        says_yes(self.grid, row, asked)
+        Question::new(row, asked).is_some_and(|question| self.says_yes(&question))
     }
 }

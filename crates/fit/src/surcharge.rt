@@ -1,5 +1,5 @@
 // A test over another one: every work is raised by what a switch between jobs costs.
-ghost use Rattle.std.specs.Prelude.{◌≡◌, ℕ, ◌+◌, ◌≤◌, [], ◌∷◌, ◌++◌, map, length, take, Decides};
+ghost use Rattle.std.specs.Prelude.{◌≡◌, ℕ, ◌+◌, ◌≤◌, [], ◌∷◌, ◌++◌, map, length, take, Decides, ◌<◌, slice_index_or};
 ghost use Rattle.std.proofs.Common.{subst};
 ghost use Rattle.fit.specs.Tests.{CostRange, Held, Room, SurchargeYes, raised};
 ghost use Rattle.std.specs.List.{AllByRecursion};
@@ -8,11 +8,12 @@ ghost use Rattle.tasks.specs.declared.fault.Setting.TheVariants.{SwitchCost};
 ghost use Rattle.tasks.specs.declared.record.TaskRecord.{TaskRecord};
 ghost use Rattle.fit.specs.Copies.{raised_lane};
 ghost use Rattle.fit.specs.Works.{safe_with_larger_works};
-ghost use Rattle.fit.specs.Lane.{SafeTask};
+ghost use Rattle.fit.specs.Lane.{SafeTask, no_task};
 ghost use Rattle.std.proofs.lemmas.List.{length-map};
 
-use crate::askable::{LONGEST_ROW, askable};
+use crate::askable::{LONGEST_ROW, Question};
 use crate::question::FitTest;
+use std::array;
 use tasks::fault::{ListFault, Setting};
 use tasks::record::TaskRecord;
 
@@ -27,7 +28,7 @@ const NO_TASK: TaskRecord = TaskRecord {
 };
 
 // The test below, asked about works with the switch cost added.
-#[derive(Drop)]
+#[derive(Drop, Debug, PartialEq, Eq)]
 pub struct Surcharge<T> {
     below: T,
     cost: u32,
@@ -55,57 +56,66 @@ impl<T: FitTest> Surcharge<T> {
     {
         self.cost
     }
-}
 
-// Whether a task's raised work passes neither its limit nor its gap.
-fn has_room(cost: u32, t: TaskRecord) -> bool
-    requires in_range { CostRange cost }
-    requires bounded { Bounded widest_grid t }
-    ensures { Decides result (Room cost t) }
-{
-    t.work + cost <= t.limit && t.work + cost <= t.gap
-}
+    // Whether a task's raised work passes neither its limit nor its gap.
+    fn has_room(&self, t: TaskRecord) -> bool
+        requires { Bounded widest_grid t }
+        ensures { Decides result (Room self.now.cost t) }
+    {
+        t.work + self.cost <= t.limit && t.work + self.cost <= t.gap
+    }
 
-// Whether every task of a row has room for its raised work.
-fn all_have_room(cost: u32, row: &[TaskRecord]) -> bool
-    requires in_range { CostRange cost }
-    requires bounded { AllByRecursion (Bounded widest_grid) row.now }
-    ensures { Decides result (AllByRecursion (Room cost) row.now) }
-{
-    for t in row {
-        if !has_room(cost, *t) {
-            return false;
+    // A task with its raised work.
+    fn raised_task(&self, t: TaskRecord) -> TaskRecord
+        requires { Bounded widest_grid t }
+        ensures { result ≡ raised self.now.cost t }
+    {
+        TaskRecord {
+            work: t.work + self.cost,
+            limit: t.limit,
+            gap: t.gap,
         }
     }
-    true
-}
 
-// A task with its raised work.
-fn raised_task(cost: u32, t: TaskRecord) -> TaskRecord
-    requires in_range { CostRange cost }
-    requires bounded { Bounded widest_grid t }
-    ensures { result ≡ raised cost t }
-{
-    TaskRecord {
-        work: t.work + cost,
-        limit: t.limit,
-        gap: t.gap,
+    // Whether every task of a question has room for its raised work.
+    fn all_have_room(&self, question: &Question) -> bool
+        ensures { Decides result (AllByRecursion (Room self.now.cost) question.now.row.now × Room self.now.cost question.now.asked) }
+    {
+        question.row.iter().all(|t| self.has_room(*t)) && self.has_room(question.asked)
     }
-}
 
-// A row with raised works, in the first places of the result.
-fn raised_row(cost: u32, row: &[TaskRecord]) -> [TaskRecord; LONGEST_ROW]
-    requires in_range { CostRange cost }
-    requires short { length row.now ≤ 31 }
-    requires bounded { AllByRecursion (Bounded widest_grid) row.now }
-    ensures len { length result ≡ 31 }
-    ensures front { take (length row.now) result ≡ map (raised cost) row.now }
-{
-    let mut dear = [NO_TASK; LONGEST_ROW];
-    for (i, t) in row.iter().enumerate() {
-        dear[i] = raised_task(cost, *t);
+    // What stands in a place of the row with raised works.
+    fn raised_at(&self, question: &Question, place: usize) -> TaskRecord
+        ensures { place < length question.now.row.now → result ≡ raised self.now.cost (slice_index_or question.now.row.now place no_task) }
+    {
+        question
+            .row
+            .get(place)
+            .map_or(NO_TASK, |t| self.raised_task(*t))
     }
-    dear
+
+    // A question's row with raised works, in the first places of the result.
+    fn raised_row(&self, question: &Question) -> [TaskRecord; LONGEST_ROW]
+        ensures len { length result ≡ 31 }
+        ensures front { take (length question.now.row.now) result ≡ map (raised self.now.cost) question.now.row.now }
+    {
+        array::from_fn(|place| self.raised_at(question, place))
+    }
+
+    // Whether the test below says yes to a question with raised works.
+    fn below_says_yes(&self, question: &Question) -> bool
+        ensures { Decides result (T.FitTest.yes self.now.below (map (raised self.now.cost) question.now.row.now) (raised self.now.cost question.now.asked)) }
+    {
+        let row = self.raised_row(question);
+        self.below.fits(&row[..question.row.len()], self.raised_task(question.asked))
+    }
+
+    // Whether the test says yes to a question.
+    fn says_yes(&self, question: &Question) -> bool
+        ensures { Decides result (SurchargeYes self.now.cost (T.FitTest.yes self.now.below) question.now.row.now question.now.asked) }
+    {
+        self.all_have_room(question) && self.below_says_yes(question)
+    }
 }
 
 impl<T: FitTest> FitTest for Surcharge<T> {
@@ -119,11 +129,6 @@ impl<T: FitTest> FitTest for Surcharge<T> {
         (T.FitTest.safe test.below (map (raised test.cost) row) (raised test.cost asked) h.below)) };
 
     fn fits(&self, row: &[TaskRecord], asked: TaskRecord) -> bool {
-        if !askable(row, asked) || !all_have_room(self.cost, row) || !has_room(self.cost, asked) {
-            return false;
-        }
-        let dear = raised_row(self.cost, row);
-        self.below
-            .fits(&dear[0..row.len()], raised_task(self.cost, asked))
+        Question::new(row, asked).is_some_and(|question| self.says_yes(&question))
     }
 }

@@ -12,7 +12,7 @@ use tasks::task::WIDEST_GRID;
 mod tests;
 
 // Says yes to any lawful task on an empty lane.
-#[derive(Clone, Copy)]
+#[derive(Clone, Copy, Debug, PartialEq, Eq)]
 pub struct OwnLane;
 
 impl FitTest for OwnLane {

@@ -5,10 +5,10 @@ use Rattle.fit.proofs.exact.enough_time.Goals as goal
 
 pub loop-time-init : goal.loop-time-init
 loop-time-init c =
-    (omega arith, λ t one room. omega (arith, no_sooner c.args.row.now c.args.asked 1 t c.requires one room))
+    (omega arith, λ t one room. omega (arith, no_sooner c.args.question.now.row.now c.args.question.now.asked 1 t c.args.question.now.askable one room))
 
 pub loop-time-preserved : goal.loop-time-preserved
 loop-time-preserved c = (
   omega arith,
-  λ t one room. omega (arith, no_sooner c.args.row.now c.args.asked c.loop-time.time t c.requires (c.loop-time.invariant.1 t one room) room),
+  λ t one room. omega (arith, no_sooner c.args.question.now.row.now c.args.question.now.asked c.loop-time.time t c.args.question.now.askable (c.loop-time.invariant.1 t one room) room),
 )

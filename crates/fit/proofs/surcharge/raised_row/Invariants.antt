@@ -1,7 +1,0 @@
--- The raised tasks so far.
-use Rattle.std.proofs.Common.{◌≡◌, map, length, take}
-use Rattle.fit.proofs.surcharge.raised_row.Given as goal
-use Rattle.fit.specs.Tests.{raised}
-
-abbrev pub invariant-loop-i : goal.invariant-loop-i
-invariant-loop-i l = (length l.dear ≡ 31) × (take l.i l.dear ≡ map (raised l.cost) (take l.i l.row))
