@@ -20,13 +20,6 @@ use tasks::record::TaskRecord;
 // The highest switch cost.
 const HIGHEST_COST: u32 = 1_000;
 
-// What stands past the row's end.
-const NO_TASK: TaskRecord = TaskRecord {
-    work: 0,
-    limit: 0,
-    gap: 0,
-};
-
 // The test below, asked about works with the switch cost added.
 #[derive(Drop, Debug, PartialEq, Eq)]
 pub struct Surcharge<T> {
@@ -84,14 +77,14 @@ impl<T: FitTest> Surcharge<T> {
         question.row.iter().all(|t| self.has_room(*t)) && self.has_room(question.asked)
     }
 
-    // What stands in a place of the row with raised works.
+    // What stands in a place of the row with raised works: past the row's end, a record of zeros.
     fn raised_at(&self, question: &Question, place: usize) -> TaskRecord
         ensures { place < length question.now.row.now → result ≡ raised self.now.cost (slice_index_or question.now.row.now place no_task) }
     {
         question
             .row
             .get(place)
-            .map_or(NO_TASK, |t| self.raised_task(*t))
+            .map_or_else(TaskRecord::default, |t| self.raised_task(*t))
     }
 
     // A question's row with raised works, in the first places of the result.
