@@ -13,24 +13,6 @@ fn task(work: u32, limit: u32, gap: u32) -> TaskRecord {
     TaskRecord { work, limit, gap }
 }
 
-// A test whose setting is in range.
-fn made<T>(test: Result<T, ListFault>) -> Result<T, Fail> {
-    match test {
-        Ok(test) => Ok(test),
-        Err(_) => Err(Fail::new("a setting out of range")),
-    }
-}
-
-// The linear test over a grid in range.
-fn linear(grid: u32) -> Result<Linear, Fail> {
-    made(Linear::new(grid))
-}
-
-// A surcharge over a test, of a cost in range.
-fn dearer<T: FitTest + Drop>(below: T, cost: u32) -> Result<Surcharge<T>, Fail> {
-    made(Surcharge::new(below, cost))
-}
-
 // What linear over a grid, and exact, say to a question.
 fn say(
     rt: &impl Abort,
@@ -40,7 +22,7 @@ fn say(
     by_linear: bool,
     by_exact: bool,
 ) -> Result<(), Fail> {
-    assert_eq!(rt; linear(grid)?.fits(row, asked), by_linear);
+    assert_eq!(rt; Linear::new(grid)?.fits(row, asked), by_linear);
     assert_eq!(rt; Exact.fits(row, asked), by_exact);
     Ok(())
 }
@@ -64,21 +46,21 @@ fn worked_examples(rt: HostRuntime) -> Result<(), Fail> {
 fn switch_costs(rt: HostRuntime) -> Result<(), Fail> {
     let row = [task(1, 4, 5)];
     let asked = task(2, 6, 10);
-    assert!(rt; !dearer(linear(60)?, 1)?.fits(&row, asked));
-    assert!(rt; dearer(Exact, 1)?.fits(&row, asked));
+    assert!(rt; !Surcharge::new(Linear::new(60)?, 1)?.fits(&row, asked));
+    assert!(rt; Surcharge::new(Exact, 1)?.fits(&row, asked));
     let either = Either {
-        first: linear(60)?,
+        first: Linear::new(60)?,
         second: Exact,
     };
     assert!(rt; either.fits(&row, asked));
-    let dear = dearer(either, 1)?;
+    let dear = Surcharge::new(either, 1)?;
     assert!(rt; dear.fits(&row, asked));
     assert!(rt; dear.fits(&[], task(3, 4, 60)));
     assert!(rt; !dear.fits(&[], task(4, 4, 60)));
     assert!(rt; !dear.fits(&[], task(5, 8, 5)));
     assert!(rt; !dear.fits(&[], task(0, 4, 60)));
     assert!(rt; !dear.fits(&[task(4, 4, 60)], task(1, 60, 60)));
-    assert!(rt; dearer(dear, 1)?.fits(&[], task(2, 4, 60)));
+    assert!(rt; Surcharge::new(dear, 1)?.fits(&[], task(2, 4, 60)));
     Ok(())
 }
 
@@ -88,7 +70,7 @@ fn long_rows(rt: HostRuntime) -> Result<(), Fail> {
     let row = [task(1, 128, 128); 32];
     say(&rt, 128, &row[0..31], row[31], true, true)?;
     say(&rt, 128, &row, row[31], false, false)?;
-    let free = dearer(Exact, 0)?;
+    let free = Surcharge::new(Exact, 0)?;
     assert!(rt; free.fits(&row[0..31], row[31]));
     assert!(rt; !free.fits(&row, row[31]));
     Ok(())
@@ -109,7 +91,7 @@ fn long_limits(rt: HostRuntime) {
 // A bound kept and then broken by one: asked alone, and in the row above a task that wants next to nothing.
 fn keeps(rt: &impl Abort, kept: TaskRecord, broken: TaskRecord) -> Result<(), Fail> {
     let test = Either {
-        first: linear(16_777_216)?,
+        first: Linear::new(16_777_216)?,
         second: Exact,
     };
     let little = task(1, 1_048_576, 16_777_216);
@@ -152,9 +134,9 @@ fn settings(rt: HostRuntime) -> Result<(), Fail> {
     refused(&rt, Linear::new(0), 0)?;
     refused(&rt, Linear::new(16_777_217), 0)?;
     refused(&rt, Surcharge::new(Exact, 1_001), 2)?;
-    assert_eq!(rt; linear(1)?.grid(), 1);
-    assert_eq!(rt; linear(16_777_216)?.grid(), 16_777_216);
-    assert_eq!(rt; dearer(Exact, 0)?.cost(), 0);
-    assert_eq!(rt; dearer(Exact, 1_000)?.cost(), 1_000);
+    assert_eq!(rt; Linear::new(1)?.grid(), 1);
+    assert_eq!(rt; Linear::new(16_777_216)?.grid(), 16_777_216);
+    assert_eq!(rt; Surcharge::new(Exact, 0)?.cost(), 0);
+    assert_eq!(rt; Surcharge::new(Exact, 1_000)?.cost(), 1_000);
     Ok(())
 }

@@ -2,7 +2,6 @@
 use crate::OwnLane;
 use plan::fault::PlanFault;
 use plan::place::place;
-use std::test::Fail;
 use tasks::fault::ListFault;
 use tasks::list::TaskList;
 use tasks::record::TaskRecord;
@@ -29,14 +28,13 @@ fn each_task_has_a_lane_of_its_own(rt: HostRuntime) {
 }
 
 #[test]
-fn a_third_task_finds_no_lane(rt: HostRuntime) -> Result<(), Fail> {
+fn a_third_task_finds_no_lane(rt: HostRuntime) {
     let mut list = TaskList::new();
     assert!(rt; filled(&mut list, 3).is_ok());
     let mut lanes = [9; 3];
-    match place(&list, &OwnLane, &mut lanes) {
-        Err(PlanFault::NoFit(task)) => assert_eq!(rt; task, 2),
-        _ => return Err(Fail::new("placed")),
-    }
+    assert_eq!(rt;
+        place(&list, &OwnLane, &mut lanes),
+        Err(PlanFault::NoFit(2))
+    );
     assert_eq!(rt; lanes, [9, 9, 9]);
-    Ok(())
 }
