@@ -50,15 +50,8 @@ impl Rows {
         requires { lane < 4 }
         ensures { Joined self.old.lanes lane task result self.new.lanes }
     {
-        join(&mut self.lanes, lane, task)
+        // As a slice: the borrow checker has no plan yet for one element of an array that is a field.
+        let lanes: &mut [Table] = &mut self.lanes;
+        lanes[lane as usize].push(task)
     }
-}
-
-// One task more at the end of a lane's row, in its place. Apart from `put`, since the check has no proof for
-// `self.lanes[lane].push(..)` in a struct with an invariant ("a struct of which members are out is read whole").
-fn join(rows: &mut [Table], lane: u8, task: TaskRecord) -> Result<(), ListFault>
-    requires { lane < length rows.old }
-    ensures { Joined rows.old lane task result rows.new }
-{
-    rows[lane as usize].push(task)
 }
