@@ -1,5 +1,5 @@
 -- The first byte of a plan that is no lane of the box.
-use Rattle.std.proofs.Common.{◌≡◌, ℕ, ◌<◌, ◌≤◌, List, length, Some, None, Option, sym, subst, leb, arith}
+use Rattle.std.proofs.Common.{◌≡◌, ℕ, ◌<◌, ◌≤◌, List, length, Some, None, Option, sym, subst, leb}
 use Rattle.std.specs.Prelude.{position}
 use Rattle.std.proofs.lemmas.Bool.{leb-true, leb-false}
 use Rattle.sheet.proofs.Printing.{position_such}

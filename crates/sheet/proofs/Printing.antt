@@ -1,5 +1,5 @@
 -- The first place of a list that passes a test, and the first byte of a name that is not printable.
-use Rattle.std.proofs.Common.{◌≡◌, ℕ, ◌<◌, ◌≤◌, Bool, true, false, List, length, take, get_or, length-take-le, Some, None, Option, sym, subst, arith}
+use Rattle.std.proofs.Common.{◌≡◌, ℕ, ◌<◌, Bool, true, false, List, length, take, get_or, length-take-le, Some, None, Option, sym, subst, arith}
 use Rattle.std.specs.Prelude.{nat_lt, position, slice_index}
 use Rattle.std.specs.List.{AllByRecursion, position_or_len}
 use Rattle.std.proofs.ByRecursion.{All-from_get_or}

@@ -1,6 +1,5 @@
 -- Each task is asked over the row of its lane in its turn.
-use Rattle.std.proofs.Common.{◌≡◌, ℕ, ◌-◌, ◌<◌, List, [], ◌∷◌, ◌++◌, map, length, get_or, set, take, sym, refl, ap, subst, arith, below_more}
-use Rattle.std.proofs.lemmas.Bool.Decides.{not_from_Decides}
+use Rattle.std.proofs.Common.{◌≡◌, ℕ, ◌-◌, ◌<◌, List, [], ◌∷◌, ◌++◌, map, length, get_or, set, take, refl, ap, subst, arith, below_more}
 use Rattle.tasks.specs.Filling.{tasks_of}
 use Rattle.tasks.specs.List.{held}
 use Rattle.tasks.specs.declared.record.TaskRecord.{TaskRecord}
@@ -8,12 +7,8 @@ use Rattle.plan.specs.Placing.{Takes, lane_of, record_of}
 use Rattle.plan.specs.Steps.{row_on}
 use Rattle.plan.proofs.Awaiting.{length-tasks}
 use Rattle.plan.proofs.Order.{number_in_turn}
-use Rattle.plan.proofs.Turning.{asked_in_turn, room_in_row, turned_next, turned_start}
+use Rattle.plan.proofs.Turning.{asked_in_turn, room_in_row, turned_next}
 use Rattle.plan.proofs.check.each_fits.Goals as goal
-
-pub loop-number-init : goal.loop-number-init
-loop-number-init g c =
-    (turned_start (tasks_of c.args.list.now) c.args.plan.now c.empty-rows.result.lanes c.empty-rows.ensures, λ j l. absurd (omega arith))
 
 pub bounds-plan-number : goal.bounds-plan-number
 bounds-plan-number g c =
@@ -29,39 +24,6 @@ pub bounds-records-number : goal.bounds-records-number
 bounds-records-number g c =
     let at = number_in_turn (tasks_of c.args.list.now) _ (c.len.result - 0) (omega arith) c.numbers_in_order-turns.ensures.ordered c.loop-number.number-index (omega arith) in
     omega (arith, at.1, ap length c.records-records.ensures)
-
-pub takes-requires : goal.takes-requires
-takes-requires g c =
-    let at = number_in_turn (tasks_of c.args.list.now) _ (c.len.result - 0) (omega arith) c.numbers_in_order-turns.ensures.ordered c.loop-number.number-index (omega arith) in
-    omega (arith, c.requires.lanes _ at.1, c.args.list.now.lane_range)
-
-pub put-requires : goal.put-requires
-put-requires g c =
-    let at = number_in_turn (tasks_of c.args.list.now) _ (c.len.result - 0) (omega arith) c.numbers_in_order-turns.ensures.ordered c.loop-number.number-index (omega arith) in
-    omega (arith, c.requires.lanes _ at.1, c.args.list.now.lane_range)
-
-pub returns-then-not-takes : goal.returns-then-not-takes
-returns-then-not-takes g c =
-    let tasks = tasks_of c.args.list.now in
-    let plan = c.args.plan.now in
-    let k = c.loop-number.number-index in
-    let turned = c.loop-number.invariant.0 in
-    let number = get_or (take (c.len.result - 0) c.numbers_in_order-turns.result) k 0 in
-    let here : k < length tasks = omega arith in
-    let at = number_in_turn tasks c.numbers_in_order-turns.result (c.len.result - 0) (omega arith) c.numbers_in_order-turns.ensures.ordered k here in
-    let four : lane_of plan number < 4 = omega (arith, c.requires.lanes number at.1, c.args.list.now.lane_range) in
-    let asked =
-    asked_in_turn tasks plan k c.loop-number.rows.lanes turned (g.F.FitTest.yes c.args.test.now)
-    c.args.list.now.lanes c.records-records.result.now c.records-records.ensures number at.0 (lane_of plan number) four c.takes.result c.takes.ensures in (
-      k,
-      here,
-      at.0,
-      λ fits. not_from_Decides c.takes.result asked c.if-not-takes.true
-          (subst (λ (n : ℕ). Takes (g.F.FitTest.yes c.args.test.now) c.args.list.now.lanes tasks plan (lane_of plan n) k) (sym at.0) fits),
-      c.requires.long,
-      c.requires.lanes,
-      c.loop-number.invariant.1,
-    )
 
 pub loop-number-preserved : goal.loop-number-preserved
 loop-number-preserved g c =
@@ -99,6 +61,3 @@ returns-in_err-put g c =
     let four : lane < 4 = omega (arith, c.requires.lanes number at.1, c.args.list.now.lane_range) in
     absurd
     (room_in_row tasks c.args.plan.now k c.loop-number.rows.lanes turned here (length-tasks c.args.list.now) lane four c.in_err-put.ensures)
-
-pub returns : goal.returns
-returns g c k h = c.loop-number.invariant.1 k (omega arith)

@@ -1,5 +1,5 @@
 -- Each task gets, in its turn, the first lane that takes it.
-use Rattle.std.proofs.Common.{◌≡◌, ℕ, ◌-◌, ◌<◌, List, [], ◌∷◌, ◌++◌, map, length, get_or, set, take, sym, refl, ap, ◌∙◌, subst, arith}
+use Rattle.std.proofs.Common.{◌≡◌, ◌-◌, ◌<◌, List, [], ◌∷◌, ◌++◌, map, length, get_or, set, take, ap, ◌∙◌, subst, arith}
 use Rattle.std.proofs.lemmas.List.{get_or-set_same, length-set}
 use Rattle.tasks.specs.Filling.{tasks_of}
 use Rattle.tasks.specs.List.{held}
@@ -9,12 +9,8 @@ use Rattle.plan.specs.Steps.{row_on}
 use Rattle.plan.proofs.Awaiting.{length-tasks}
 use Rattle.plan.proofs.Order.{number_in_turn}
 use Rattle.plan.proofs.FirstFit.{begun-next, writing_agrees}
-use Rattle.plan.proofs.Turning.{asked_takes, room_in_row, takes_asked, turned_alike, turned_next, turned_start}
+use Rattle.plan.proofs.Turning.{asked_takes, room_in_row, takes_asked, turned_alike, turned_next}
 use Rattle.plan.proofs.place.first_fit.Goals as goal
-
-pub loop-number-init : goal.loop-number-init
-loop-number-init g c =
-    (refl, turned_start (tasks_of c.args.list.now) _ c.empty-rows.result.lanes c.empty-rows.ensures, λ j l. absurd (omega arith))
 
 pub offset_bounds-records-number : goal.offset_bounds-records-number
 offset_bounds-records-number g c =
@@ -30,26 +26,6 @@ pub bounds-plan-number : goal.bounds-plan-number
 bounds-plan-number g c =
     let at = number_in_turn (tasks_of c.args.list.now) _ (c.len.result - 0) (omega arith) c.numbers_in_order-turns.ensures.ordered c.loop-number.number-index (omega arith) in
     omega (arith, at.1, length-tasks c.args.list.now)
-
-pub returns-in_default : goal.returns-in_default
-returns-in_default g c =
-    let list = c.args.list.now in
-    let tasks = tasks_of list in
-    let k = c.loop-number.number-index in
-    let turned = c.loop-number.invariant.1 in
-    let here : k < length tasks = omega arith in
-    let at = number_in_turn tasks c.numbers_in_order-turns.result (c.len.result - 0) (omega arith) c.numbers_in_order-turns.ensures.ordered k here in (
-      k,
-      c.loop-number.plan,
-      here,
-      at.0,
-      c.loop-number.invariant.2,
-      λ lane l takes.
-          c.in_default.ensures lane (omega (arith, l, c.lanes.ensures))
-          (takes_asked tasks c.loop-number.plan k c.loop-number.rows.lanes turned
-          (g.F.FitTest.yes c.args.test.now) list.lanes c.records-records.result.now c.records-records.ensures
-          (get_or (take (c.len.result - 0) c.numbers_in_order-turns.result) k 0) at.0 lane (omega (arith, list.lane_range)) takes),
-    )
 
 pub loop-number-preserved : goal.loop-number-preserved
 loop-number-preserved g c =
@@ -97,6 +73,3 @@ returns-in_err-put g c =
     let four : c.in-Some.lane < 4 = omega (arith, c.in-Some.ensures.0, c.lanes.ensures, list.lane_range) in
     absurd
     (room_in_row tasks c.loop-number.plan k c.loop-number.rows.lanes c.loop-number.invariant.1 here (length-tasks list) c.in-Some.lane four c.in_err-put.ensures)
-
-pub returns : goal.returns
-returns g c = (c.loop-number.invariant.0, λ k h. c.loop-number.invariant.2 k (omega arith))

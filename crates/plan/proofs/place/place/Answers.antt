@@ -1,19 +1,10 @@
 -- The placing is written once every task has its lane; else the plan stays.
-use Rattle.std.proofs.Common.{◌≡◌, ℕ, ◌-◌, ◌≤◌, List, length, take, sym, refl, ap, ◌∙◌, subst, arith}
-use Rattle.std.proofs.lemmas.Result.{err_from_is_err_and}
+use Rattle.std.proofs.Common.{◌≡◌, ℕ, ◌-◌, ◌≤◌, List, length, take, sym, ap, ◌∙◌, subst, arith}
 use Rattle.tasks.specs.Filling.{tasks_of}
 use Rattle.plan.specs.Placing.{Passes, Places}
 use Rattle.plan.proofs.Awaiting.{length-tasks}
-use Rattle.plan.proofs.FirstFit.{none_fitted, placed_front}
+use Rattle.plan.proofs.FirstFit.{placed_front}
 use Rattle.plan.proofs.place.place.Goals as goal
-
-pub returns-in_err-lanes : goal.returns-in_err-lanes
-returns-in_err-lanes g c =
-    let list = c.args.list.now in
-    let p = err_from_is_err_and c.from_residual.result c.from_residual.ensures.1 in
-    let long : length c.args.plan.now ≡ length (tasks_of list) = omega arith in
-    rw (p.1, p.2)
-    (none_fitted (g.F.FitTest.yes c.args.test.now) list.lanes (tasks_of list) c.args.plan.now long c.in_err-lanes.field-0.0 c.in_err-lanes.ensures, refl)
 
 pub returns : goal.returns
 returns g c =

@@ -1,6 +1,6 @@
 use Rattle.std.proofs.Common.{◌≡◌, ◌≢◌, length, Some, refl, rules}
 use Rattle.std.proofs.lemmas.Result.{err_from_is_err_and}
-use Rattle.tasks.proofs.Scan.{ranged, refused, shorter, went_on}
+use Rattle.tasks.proofs.Scan.{ranged, refused, went_on}
 use Rattle.tasks.specs.Filling.{tasks_of}
 use Rattle.tasks.specs.Reading.Unreadable.{unframed}
 use Rattle.tasks.proofs.read.scan.Goals as goal
@@ -20,21 +20,11 @@ returns-in_err-found c =
     let p = err_from_is_err_and c.from_residual-in_err-found.result c.from_residual-in_err-found.ensures.1 in
     rw (p.1, p.2) (refused c.args.bytes.now c.args.asked c.loop-sheet.sheet c.loop-sheet.list c.loop-sheet.name c.loop-sheet.invariant c.in_err-found.field-0.0 c.in_err-found.ensures)
 
-pub loop-sheet-smaller-then-eq : goal.loop-sheet-smaller-then-eq
-loop-sheet-smaller-then-eq c =
-    let joined = c.in_ok-found.ensures in
-    shorter c.loop-sheet.sheet c.loop-sheet.list c.in_ok-found.found c.take_record.new.sheet c.take_record.new.list joined.0 joined.1
-
 pub loop-sheet-preserved-then-eq : goal.loop-sheet-preserved-then-eq
 loop-sheet-preserved-then-eq c =
     let joined = c.in_ok-found.ensures in
     let is : c.args.asked ≡ Some (length (tasks_of c.loop-sheet.list)) = search rules in
     went_on c.args.bytes.now c.args.asked c.loop-sheet.sheet c.loop-sheet.list c.loop-sheet.name c.loop-sheet.invariant c.in_ok-found.found c.take_record.new.sheet c.take_record.new.list joined.0 joined.1 c.in_ok-found.found (λ _. refl) (λ other. absurd (other is))
-
-pub loop-sheet-smaller : goal.loop-sheet-smaller
-loop-sheet-smaller c =
-    let joined = c.in_ok-found.ensures in
-    shorter c.loop-sheet.sheet c.loop-sheet.list c.in_ok-found.found c.take_record.new.sheet c.take_record.new.list joined.0 joined.1
 
 pub loop-sheet-preserved : goal.loop-sheet-preserved
 loop-sheet-preserved c =

@@ -1,5 +1,5 @@
 -- The lanes are asked one after the other.
-use Rattle.std.proofs.Common.{ℕ, ◌<◌, ◌≤◌, Some, None, Option, MatchOption, arith, rules, tests}
+use Rattle.std.proofs.Common.{rules, tests}
 use Rattle.std.proofs.lemmas.Iterator.{first_from_Range}
 use Rattle.plan.specs.Steps.{row_on}
 use Rattle.plan.proofs.FirstFit.{first_taken}

@@ -1,5 +1,4 @@
 use Rattle.std.proofs.Common.{◌-◌, ◌<◌, ◌≤◌, length, Some, None, refl, inl, inr, arith, rules}
-use Rattle.std.proofs.lemmas.List.{drop_all}
 use Rattle.sheet.proofs.Records.{bad-length, bad-name, name-long, name_prints, entry_there}
 use Rattle.sheet.specs.Reading.{entry_said}
 use Rattle.sheet.proofs.Printing.{first_unprintable}
