@@ -18,17 +18,17 @@ pub fn rounding_up_covers()
 {}
 
 // The most work that a task asks for within a time.
-fn requests_of(time: u64, t: TaskRecord) -> u64
+fn requests_of(time: u32, t: TaskRecord) -> u64
     requires in_time { time ≤ 2 ^ 20 }
     requires bounded { Bounded widest_grid t }
     ensures value { result ≡ requests time t }
     ensures bound { result ≤ 2 ^ 40 }
 {
-    time.div_ceil(t.gap as u64) * t.work as u64
+    time.div_ceil(t.gap) as u64 * t.work as u64
 }
 
 // The most work that the asked task, once, and the row ask for within a time.
-fn demand(question: &Question, time: u64) -> u64
+fn demand(question: &Question, time: u32) -> u64
     requires { time ≤ 2 ^ 20 }
     ensures { result ≡ question.now.asked.work + sum_by (requests time) question.now.row.now }
 {
@@ -44,7 +44,7 @@ fn enough_time(question: &Question) -> bool
     let limit = question.asked.limit as u64;
     let mut time = demand(question, 1);
     while time <= limit {
-        let next = demand(question, time);
+        let next = demand(question, time as u32);
         if next <= time {
             return true;
         }
