@@ -26,8 +26,8 @@ impl<'a> Question<'a> {
         ensures { MatchOption result (Askable row.now asked → ⊥) (λ q. (q.row.now ≡ row.now) × (q.asked ≡ asked)) }
     {
         if row.len() <= LONGEST_ROW
-            && row.iter().all(|t| t.bounded(WIDEST_GRID))
             && asked.bounded(WIDEST_GRID)
+            && row.iter().all(|t| t.bounded(WIDEST_GRID))
         {
             Some(Question { row, asked })
         } else {

@@ -65,7 +65,8 @@ impl Linear {
     fn all_on_grid(&self, question: &Question) -> bool
         ensures { Decides result (AllByRecursion (OnGrid self.now.grid) question.now.row.now × OnGrid self.now.grid question.now.asked) }
     {
-        question.row.iter().all(|t| self.grid % t.gap == 0) && self.grid % question.asked.gap == 0
+        let asked_on_grid = self.grid % question.asked.gap == 0;
+        asked_on_grid && question.row.iter().all(|t| self.grid % t.gap == 0)
     }
 
     // Whether the asked task's work fits its limit beside the row (inequality 5).

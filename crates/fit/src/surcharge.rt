@@ -94,7 +94,7 @@ impl<T: FitTest> Surcharge<T> {
             .map_or(NO_TASK, |t| self.raised_task(*t))
     }
 
-    // A question's row with raised works, in the first places of the result.
+    // A question's row with raised works, in the first places of the result. With no heap it is an array of the longest row's length.
     fn raised_row(&self, question: &Question) -> [TaskRecord; LONGEST_ROW]
         ensures len { length result ≡ 31 }
         ensures front { take (length question.now.row.now) result ≡ map (raised self.now.cost) question.now.row.now }
