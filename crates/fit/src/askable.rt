@@ -17,6 +17,7 @@ pub(crate) struct Question<'a> {
     pub(crate) row: &'a [TaskRecord],
     pub(crate) asked: TaskRecord,
     ghost askable: { Askable row.now asked } by { Prim.hlevel props },
+    // The bounds once more, place by place: so the chains over the row read them.
     ghost row_bounded: { All (Bounded widest_grid) row.now },
 }
 

@@ -44,7 +44,7 @@ fn enough_time(question: &Question) -> bool
     let limit = question.asked.limit as u64;
     let mut time = demand(question, 1);
     while time <= limit {
-        // Up to the limit, so in 32 bits: the divisions are as fast again.
+        // At most the limit, so 32 bits hold it, and a division of 64 bits would be slower.
         let next = demand(question, time as u32);
         if next <= time {
             return true;
