@@ -1,6 +1,6 @@
 // What every test looks at first: the length of the row, and the bounds of each task.
 ghost use Rattle.fit.specs.Tests.{Askable};
-ghost use Rattle.std.specs.Prelude.{MatchOption, ◌≡◌, ◌≤◌, length};
+ghost use Rattle.std.specs.Prelude.{MatchOption, ◌≡◌};
 ghost use Rattle.std.proofs.Props.{props};
 ghost use Rattle.std.specs.List.{All};
 ghost use Rattle.tasks.specs.Task.{Bounded, widest_grid};

@@ -1,6 +1,6 @@
 // The exact test: the response time of the asked task (Audsley, Burns, Richardson and Wellings, 1991).
 ghost use Rattle.std.specs.Prelude.{◌≡◌, ◌+◌, ◌^◌, ◌≤◌, Decides, sum_by};
-ghost use Rattle.fit.specs.Tests.{EnoughTime, ExactYes, LeastCover, RoundingUpCovers, requests, rounded_up};
+ghost use Rattle.fit.specs.Tests.{EnoughTime, ExactYes, RoundingUpCovers, requests};
 ghost use Rattle.tasks.specs.Task.{Bounded, widest_grid};
 ghost use Rattle.fit.specs.Laws.{exact_safe};
 

@@ -1,7 +1,7 @@
 // The linear test: the request bounds of the row as straight lines (Fisher, Baruah and Baker, ECRTS 2006).
-ghost use Rattle.std.specs.Prelude.{◌≡◌, ◌+◌, ◌*◌, ◌^◌, ◌≤◌, length, Decides, sum_by};
+ghost use Rattle.std.specs.Prelude.{◌≡◌, ◌+◌, ◌*◌, ◌^◌, ◌≤◌, Decides, sum_by};
 ghost use Rattle.fit.specs.Fractions.{LawfulQuestion, Standard};
-ghost use Rattle.fit.specs.Tests.{Askable, Held, LinearYes, line, share};
+ghost use Rattle.fit.specs.Tests.{Held, LinearYes, line, share};
 ghost use Rattle.std.specs.List.{AllByRecursion};
 ghost use Rattle.tasks.specs.Task.{Bounded, GridRange, OnGrid, widest_grid};
 ghost use Rattle.tasks.specs.declared.fault.Setting.TheVariants.{Grid};

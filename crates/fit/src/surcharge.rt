@@ -1,5 +1,5 @@
 // A test over another one: every work is raised by what a switch between jobs costs.
-ghost use Rattle.std.specs.Prelude.{◌≡◌, ℕ, ◌+◌, ◌≤◌, [], ◌∷◌, ◌++◌, map, length, take, Decides, ◌<◌, slice_index_or};
+ghost use Rattle.std.specs.Prelude.{◌≡◌, ℕ, ◌+◌, [], ◌∷◌, ◌++◌, map, length, take, Decides, ◌<◌, slice_index_or};
 ghost use Rattle.std.proofs.Common.{subst};
 ghost use Rattle.fit.specs.Tests.{CostRange, Held, Room, SurchargeYes, raised};
 ghost use Rattle.std.specs.List.{AllByRecursion};
