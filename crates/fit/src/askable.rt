@@ -1,6 +1,6 @@
 // What every test looks at first: the length of the row, and the bounds of each task.
 ghost use Rattle.fit.specs.Tests.{Askable};
-ghost use Rattle.std.specs.Prelude.{MatchOption, ◌≡◌, ◌≤◌, length};
+ghost use Rattle.std.specs.Prelude.{MatchOption, ◌≡◌};
 ghost use Rattle.std.proofs.Props.{props};
 ghost use Rattle.std.specs.List.{All};
 ghost use Rattle.tasks.specs.Task.{Bounded, widest_grid};
@@ -17,6 +17,7 @@ pub(crate) struct Question<'a> {
     pub(crate) row: &'a [TaskRecord],
     pub(crate) asked: TaskRecord,
     ghost askable: { Askable row.now asked } by { Prim.hlevel props },
+    // The bounds once more, place by place: so the chains over the row read them.
     ghost row_bounded: { All (Bounded widest_grid) row.now },
 }
 
@@ -26,8 +27,8 @@ impl<'a> Question<'a> {
         ensures { MatchOption result (Askable row.now asked → ⊥) (λ q. (q.row.now ≡ row.now) × (q.asked ≡ asked)) }
     {
         if row.len() <= LONGEST_ROW
-            && row.iter().all(|t| t.bounded(WIDEST_GRID))
             && asked.bounded(WIDEST_GRID)
+            && row.iter().all(|t| t.bounded(WIDEST_GRID))
         {
             Some(Question { row, asked })
         } else {

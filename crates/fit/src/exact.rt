@@ -1,6 +1,6 @@
 // The exact test: the response time of the asked task (Audsley, Burns, Richardson and Wellings, 1991).
 ghost use Rattle.std.specs.Prelude.{◌≡◌, ◌+◌, ◌^◌, ◌≤◌, Decides, sum_by};
-ghost use Rattle.fit.specs.Tests.{EnoughTime, ExactYes, LeastCover, RoundingUpCovers, requests, rounded_up};
+ghost use Rattle.fit.specs.Tests.{EnoughTime, ExactYes, RoundingUpCovers, requests};
 ghost use Rattle.tasks.specs.Task.{Bounded, widest_grid};
 ghost use Rattle.fit.specs.Laws.{exact_safe};
 
@@ -18,17 +18,17 @@ pub fn rounding_up_covers()
 {}
 
 // The most work that a task asks for within a time.
-fn requests_of(time: u64, t: TaskRecord) -> u64
+fn requests_of(time: u32, t: TaskRecord) -> u64
     requires in_time { time ≤ 2 ^ 20 }
     requires bounded { Bounded widest_grid t }
     ensures value { result ≡ requests time t }
     ensures bound { result ≤ 2 ^ 40 }
 {
-    time.div_ceil(t.gap as u64) * t.work as u64
+    time.div_ceil(t.gap) as u64 * t.work as u64
 }
 
 // The most work that the asked task, once, and the row ask for within a time.
-fn demand(question: &Question, time: u64) -> u64
+fn demand(question: &Question, time: u32) -> u64
     requires { time ≤ 2 ^ 20 }
     ensures { result ≡ question.now.asked.work + sum_by (requests time) question.now.row.now }
 {
@@ -44,7 +44,8 @@ fn enough_time(question: &Question) -> bool
     let limit = question.asked.limit as u64;
     let mut time = demand(question, 1);
     while time <= limit {
-        let next = demand(question, time);
+        // At most the limit, so 32 bits hold it, and a division of 64 bits would be slower.
+        let next = demand(question, time as u32);
         if next <= time {
             return true;
         }

@@ -1,7 +1,7 @@
 // The linear test: the request bounds of the row as straight lines (Fisher, Baruah and Baker, ECRTS 2006).
-ghost use Rattle.std.specs.Prelude.{◌≡◌, ◌+◌, ◌*◌, ◌^◌, ◌≤◌, length, Decides, sum_by};
+ghost use Rattle.std.specs.Prelude.{◌≡◌, ◌+◌, ◌*◌, ◌^◌, ◌≤◌, Decides, sum_by};
 ghost use Rattle.fit.specs.Fractions.{LawfulQuestion, Standard};
-ghost use Rattle.fit.specs.Tests.{Askable, Held, LinearYes, line, share};
+ghost use Rattle.fit.specs.Tests.{Held, LinearYes, line, share};
 ghost use Rattle.std.specs.List.{AllByRecursion};
 ghost use Rattle.tasks.specs.Task.{Bounded, GridRange, OnGrid, widest_grid};
 ghost use Rattle.tasks.specs.declared.fault.Setting.TheVariants.{Grid};
@@ -65,7 +65,8 @@ impl Linear {
     fn all_on_grid(&self, question: &Question) -> bool
         ensures { Decides result (AllByRecursion (OnGrid self.now.grid) question.now.row.now × OnGrid self.now.grid question.now.asked) }
     {
-        question.row.iter().all(|t| self.grid % t.gap == 0) && self.grid % question.asked.gap == 0
+        let asked_on_grid = self.grid % question.asked.gap == 0;
+        asked_on_grid && question.row.iter().all(|t| self.grid % t.gap == 0)
     }
 
     // Whether the asked task's work fits its limit beside the row (inequality 5).

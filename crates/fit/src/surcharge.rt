@@ -1,5 +1,5 @@
 // A test over another one: every work is raised by what a switch between jobs costs.
-ghost use Rattle.std.specs.Prelude.{◌≡◌, ℕ, ◌+◌, ◌≤◌, [], ◌∷◌, ◌++◌, map, length, take, Decides, ◌<◌, slice_index_or};
+ghost use Rattle.std.specs.Prelude.{◌≡◌, ℕ, ◌+◌, [], ◌∷◌, ◌++◌, map, length, take, Decides, ◌<◌, slice_index_or};
 ghost use Rattle.std.proofs.Common.{subst};
 ghost use Rattle.fit.specs.Tests.{CostRange, Held, Room, SurchargeYes, raised};
 ghost use Rattle.std.specs.List.{AllByRecursion};
@@ -87,7 +87,7 @@ impl<T: FitTest> Surcharge<T> {
             .map_or_else(TaskRecord::default, |t| self.raised_task(*t))
     }
 
-    // A question's row with raised works, in the first places of the result.
+    // A question's row with raised works, in the first places of the result. With no heap it is an array of the longest row's length.
     fn raised_row(&self, question: &Question) -> [TaskRecord; LONGEST_ROW]
         ensures len { length result ≡ 31 }
         ensures front { take (length question.now.row.now) result ≡ map (raised self.now.cost) question.now.row.now }
