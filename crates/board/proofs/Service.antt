@@ -11,8 +11,8 @@ use Rattle.tasks.specs.declared.record.TaskRecord.{TaskRecord}
 use Rattle.board.specs.PlainBoard.{after_end, after_service, bit, byte_of, closed_byte, closes_at_end, count_from, first_closes, first_waiting, lane_standings}
 use Rattle.board.specs.Queues.{stands_at}
 use Rattle.board.specs.Seating.{plan_of, tasks_on}
-use Rattle.board.specs.Serving.{LaneServed, LanesServed, SameButJobs}
-use Rattle.board.specs.Steps.{next_on, served_by}
+use Rattle.board.specs.Serving.{LanesServed, SameButJobs}
+use Rattle.board.specs.Steps.{SlotGiven, next_on, served_by}
 use Rattle.board.specs.View.{board_of, lane_of_standings, numbers_on, standings_on, view}
 use Rattle.board.specs.declared.board.Board.{Board}
 use Rattle.board.specs.declared.seats.Seats.{Seats}
@@ -87,7 +87,8 @@ module _ (before : Board) (finished : ℕ) where
   P = plan_of before.seats
 
   module _ (lane byte : ℕ) (now : Board) (half : HalfServed before finished lane byte now) (some : 0 < lane)
-      (closed : Bool) (after : Board) (served : LaneServed now (lane - 1) (bit finished (lane - 1)) closed after) where
+      (closed : Bool) (after : Board) (same : SameButJobs now after)
+      (served : SlotGiven (tasks_on now.seats) (plan_of now.seats) (standings_on now) (lane - 1) (bit finished (lane - 1)) closed (standings_on after)) where
     abbrev low : ℕ
     low = lane - 1
 
@@ -127,15 +128,15 @@ module _ (before : Board) (finished : ℕ) where
     bit_is : closed ≡ closes_at_end (view before) finished low
     bit_is = closing ∙ (sym (lane-closes T P ss low said) ∙ ap (closing_on T P ss low said) as_before)
 
-    pub half_next : HalfServed before finished low (cond closed 1 0 + 2 * byte) after
-    half_next =
+    pub half_next : (more : ℕ) → more ≡ cond closed 1 0 + 2 * byte → HalfServed before finished low more after
+    half_next more is =
         record {
           low = omega (arith, half.low);
           same =
               record {
-                seats = served.same.seats ∙ half.same.seats;
-                clock = served.same.clock ∙ half.same.clock;
-                slot = served.same.slot ∙ half.same.slot;
+                seats = same.seats ∙ half.same.seats;
+                clock = same.clock ∙ half.same.clock;
+                slot = same.slot ∙ half.same.slot;
               };
           done =
               λ k h l.
@@ -143,9 +144,10 @@ module _ (before : Board) (finished : ℕ) where
               (λ (e : k ≡ low → ⊥). aside k e ∙ half.done k (above k low h e refl some) l) (cases_eq k low);
           to_do = λ k h. aside k (λ e. omega (arith, e)) ∙ half.to_do k (omega arith);
           bits =
-              ap (λ (x : Bool). cond x 1 0 + 2 * byte) bit_is
+              is
+              ∙ (ap (λ (x : Bool). cond x 1 0 + 2 * byte) bit_is
               ∙ (ap (λ (n : ℕ). cond (closes_at_end (view before) finished low) 1 0 + 2 * n) half.bits
-              ∙ byte_more (closes_at_end (view before) finished) lanes lane some half.low);
+              ∙ byte_more (closes_at_end (view before) finished) lanes lane some half.low));
         }
 
 counted_same : {X : Type 0} (f g : ℕ → X) (d : X) (n : ℕ) → ((k : ℕ) → k < n → f k ≡ g k) → map f (count_from 0 n) ≡ map g (count_from 0 n)

@@ -9,7 +9,6 @@ ghost use Rattle.board.specs.declared.call.Call.TheVariants as call;
 ghost use Rattle.tasks.specs.Filling.{tasks_of};
 
 use crate::board::Board;
-use crate::board::at_hand::post;
 use crate::call::{Answer, Call};
 use crate::fault::BoardFault;
 use crate::jobs::Jobs;
@@ -29,7 +28,6 @@ impl Board {
         Board {
             seats: Seats::none(),
             jobs: Jobs::none(),
-            next: [None; 4],
             clock: 0,
             slot_open: false,
         }
@@ -42,7 +40,7 @@ impl Board {
         if task >= self.seats.count() {
             return Err(BoardFault::NoTask(task));
         }
-        Ok(self.jobs.count(task))
+        Ok(self.jobs.queue(task).count())
     }
 
     // The task that the lane serves in the open slot, if it serves one.
@@ -75,7 +73,6 @@ impl Board {
         *self = Board {
             seats: Seats::new(list, plan),
             jobs: Jobs::none(),
-            next: [None; 4],
             clock: start,
             slot_open: false,
         };
@@ -93,19 +90,13 @@ impl Board {
             return Err(BoardFault::SlotOpen(self.clock));
         }
         let numbers = self.seats.task(task);
-        let next = self.jobs.next_release(task, numbers);
+        let next = self.jobs.queue(task).next_release(numbers);
         if self.clock < next {
             return Err(BoardFault::Early(next));
         }
-        if !post(
-            &self.seats,
-            &mut self.jobs,
-            &mut self.next,
-            task,
-            self.clock,
-        ) {
-            return Err(BoardFault::QueueFull(task));
-        }
+        self.jobs
+            .post(&self.seats, task, self.clock)
+            .map_err(|_| BoardFault::QueueFull(task))?;
         Ok(self.clock + u64::from(numbers.limit))
     }
 
@@ -145,26 +136,17 @@ impl Board {
         ensures after { view self.new ≡ after_call (view self.old) asked }
     {
         match asked {
-            Call::Post(task) => match self.post(task) {
-                Ok(deadline) => Answer::Posted(deadline),
-                Err(fault) => Answer::Refused(fault),
-            },
-            Call::Begin => match self.begin() {
-                Ok(busy) => Answer::Begun(busy),
-                Err(fault) => Answer::Refused(fault),
-            },
-            Call::End(finished) => match self.end(finished) {
-                Ok(closed) => Answer::Ended(closed),
-                Err(fault) => Answer::Refused(fault),
-            },
-            Call::Serving(lane) => match self.serving(lane) {
-                Ok(task) => Answer::Serving(task),
-                Err(fault) => Answer::Refused(fault),
-            },
-            Call::Waiting(task) => match self.waiting(task) {
-                Ok(count) => Answer::Waiting(count),
-                Err(fault) => Answer::Refused(fault),
-            },
+            Call::Post(task) => self.post(task).map_or_else(Answer::Refused, Answer::Posted),
+            Call::Begin => self.begin().map_or_else(Answer::Refused, Answer::Begun),
+            Call::End(finished) => self
+                .end(finished)
+                .map_or_else(Answer::Refused, Answer::Ended),
+            Call::Serving(lane) => self
+                .serving(lane)
+                .map_or_else(Answer::Refused, Answer::Serving),
+            Call::Waiting(task) => self
+                .waiting(task)
+                .map_or_else(Answer::Refused, Answer::Waiting),
             Call::Clock => Answer::Clock(self.clock()),
         }
     }

@@ -7,7 +7,7 @@ ghost use Rattle.std.specs.Option.{unwrap_or};
 
 use crate::release::Release;
 use crate::task_queue::TaskQueue;
-use queue::{put, take};
+use queue::{Full, put, take};
 use tasks::record::TaskRecord;
 
 impl TaskQueue {
@@ -36,41 +36,26 @@ impl TaskQueue {
     pub(crate) fn count(&self) -> usize
         ensures { result ≡ length (standing self.now).waiting }
     {
-        let mut waiting = 0;
-        for place in self.places.iter() {
-            if place.is_some() {
-                waiting += 1;
-            }
-        }
-        waiting
+        self.places.iter().filter(|place| place.is_some()).count()
     }
 
     // Whether a job waits.
     pub(crate) fn is_waiting(&self) -> bool
         ensures { result ≡ has_job (standing self.now) }
     {
-        for place in self.places.iter() {
-            if place.is_some() {
-                return true;
-            }
-        }
-        false
+        self.places.iter().any(|place| place.is_some())
     }
 
     // Takes a job that is released at this clock, unless four wait.
-    pub(crate) fn post(&mut self, clock: u64) -> bool
+    pub(crate) fn post(&mut self, clock: u64) -> Result<(), Full<Release>>
         requires { (clock ≤ 1099511627776) × (unwrap_or (standing self.old).last 0 ≤ clock) }
         ensures { TakenIn self.old clock result self.new }
     {
         let mut places = self.places;
-        match put(&mut places, Release { at: clock }) {
-            Ok(()) => {
-                self.places = places;
-                self.last = Some(clock);
-                true
-            }
-            Err(_) => false,
-        }
+        put(&mut places, Release { at: clock })?;
+        self.places = places;
+        self.last = Some(clock);
+        Ok(())
     }
 
     // Serves one slot to the earliest waiting job, if one waits, and says whether it closes.
