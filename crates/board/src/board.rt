@@ -1,5 +1,6 @@
 // The board: which task sits on which lane, the jobs that wait, one clock, and whether a slot is open.
 ghost use Rattle.std.specs.Prelude.{◌≡◌, ◌<◌, ◌≤◌, true};
+ghost use Rattle.board.specs.PlainBoard.{clock_end};
 ghost use Rattle.board.specs.Steps.{KnowsNext};
 
 use crate::jobs::Jobs;
@@ -16,6 +17,6 @@ pub struct Board {
     clock: u64,
     slot_open: bool,
     ghost at_hand: { KnowsNext seats jobs },
-    ghost in_time: { clock ≤ 1099511627776 },
-    ghost open_in_time: { slot_open ≡ true → clock < 1099511627776 },
+    ghost in_time: { clock ≤ clock_end },
+    ghost open_in_time: { slot_open ≡ true → clock < clock_end },
 }

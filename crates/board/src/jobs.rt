@@ -1,5 +1,6 @@
 // The waiting jobs of all tasks, and the task that each lane serves.
 ghost use Rattle.std.specs.Prelude.{◌≡◌, ◌<◌, ◌≤◌, ◌&&◌, ◌==◌, None, map, length, replicate, slice_index_or};
+ghost use Rattle.board.specs.PlainBoard.{clock_end};
 ghost use Rattle.board.specs.Queues.{JobTaken, has_job, standing, stands_at};
 ghost use Rattle.board.specs.Seating.{plan_of, tasks_on};
 ghost use Rattle.fit.specs.Lane.{unreleased};
@@ -67,7 +68,7 @@ impl Jobs {
         requires { number < length (tasks_on seats.now) }
         ensures { result ≡ (lane_of (plan_of seats.now) number == lane && has_job (stands_at (map standing self.now.queues) number)) }
     {
-        seats.lane(number) as usize == lane && self.queues[number].is_waiting()
+        seats.lane(number) == lane && self.queues[number].is_waiting()
     }
 
     // Takes a job of the task that is released at this clock, unless four wait. Its lane looks anew.
@@ -78,7 +79,7 @@ impl Jobs {
         clock: u64,
     ) -> Result<(), Full<Release>>
         requires inside { number < length (tasks_on seats.now) }
-        requires in_time { clock ≤ 1099511627776 }
+        requires in_time { clock ≤ clock_end }
         requires no_later { unwrap_or (stands_at (map standing self.old.queues) number).last 0 ≤ clock }
         requires at_hand { KnowsNext seats.now self.old }
         ensures taken { JobTaken (map standing self.old.queues) number clock result (map standing self.new.queues) }
@@ -86,7 +87,7 @@ impl Jobs {
     {
         let queues: &mut [TaskQueue] = &mut self.queues;
         queues[number].post(clock)?;
-        let lane = seats.lane(number) as usize;
+        let lane = seats.lane(number);
         self.next[lane] = self.first_waiting(seats, lane);
         Ok(())
     }

@@ -31,7 +31,7 @@ impl Board {
     pub(crate) fn is_busy(&self, lane: usize) -> bool
         ensures { result ≡ busy (view self.now) lane }
     {
-        lane < self.seats.lanes() as usize && self.served(lane).is_some()
+        lane < self.seats.lanes() && self.served(lane).is_some()
     }
 
     // The byte whose bit k says that lane k has a job to serve.
@@ -39,7 +39,7 @@ impl Board {
         ensures { result ≡ busy_byte (view self.now) }
     {
         let mut byte = 0;
-        for lane in (0..self.seats.lanes() as usize).rev() {
+        for lane in (0..self.seats.lanes()).rev() {
             byte = with_low_bit(byte, self.is_busy(lane));
         }
         byte
@@ -60,7 +60,7 @@ impl Board {
         ensures { LanesServed self.old finished result self.new }
     {
         let mut byte = 0;
-        for lane in (0..self.seats.lanes() as usize).rev() {
+        for lane in (0..self.seats.lanes()).rev() {
             let closed = self.jobs.serve(&self.seats, lane, bit_of(finished, lane));
             byte = with_low_bit(byte, closed);
         }
@@ -73,7 +73,7 @@ pub(crate) fn with_low_bit(byte: u8, low: bool) -> u8
     requires { byte < 128 }
     ensures { result ≡ (if low then 1 else 0) + 2 * byte }
 {
-    if low { 1 + 2 * byte } else { 2 * byte }
+    u8::from(low) + 2 * byte
 }
 
 // Bit k of a byte.

@@ -47,7 +47,7 @@ impl Board {
     pub fn serving(&self, lane: usize) -> Result<Option<usize>, BoardFault>
         ensures { Answered (view self.now) (call.Serving lane) answer.Serving result (view self.now) }
     {
-        if lane >= self.seats.lanes() as usize {
+        if lane >= self.seats.lanes() {
             return Err(BoardFault::NoLane(lane));
         }
         if !self.slot_open {

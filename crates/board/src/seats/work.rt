@@ -57,10 +57,10 @@ impl Seats {
     }
 
     // How many lanes there are.
-    pub(crate) fn lanes(&self) -> u8
+    pub(crate) fn lanes(&self) -> usize
         ensures { result ≡ self.now.list.lanes }
     {
-        self.list.lanes()
+        usize::from(self.list.lanes())
     }
 
     // The task of this number.
@@ -72,11 +72,11 @@ impl Seats {
     }
 
     // The lane of the task of this number.
-    pub(crate) fn lane(&self, number: usize) -> u8
+    pub(crate) fn lane(&self, number: usize) -> usize
         requires { number < length (tasks_on self.now) }
         ensures { result ≡ lane_of (plan_of self.now) number }
     {
-        self.lane_of[number]
+        usize::from(self.lane_of[number])
     }
 
     // The tasks' numbers in their order.

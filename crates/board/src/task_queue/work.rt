@@ -1,6 +1,6 @@
 // What the queue of a task does.
 ghost use Rattle.std.specs.Prelude.{◌≡◌, ◌≤◌, length};
-ghost use Rattle.board.specs.PlainBoard.{first_closes, next_release};
+ghost use Rattle.board.specs.PlainBoard.{clock_end, first_closes, next_release};
 ghost use Rattle.board.specs.Queues.{TakenIn, after_slot_of, has_job, standing};
 ghost use Rattle.fit.specs.Lane.{unreleased};
 ghost use Rattle.std.specs.Option.{unwrap_or};
@@ -26,10 +26,7 @@ impl TaskQueue {
     pub(crate) fn next_release(&self, task: TaskRecord) -> u64
         ensures { result ≡ next_release task (standing self.now) }
     {
-        match self.last {
-            Some(last) => last + u64::from(task.gap),
-            None => 0,
-        }
+        self.last.map_or(0, |last| last + u64::from(task.gap))
     }
 
     // How many jobs wait.
@@ -48,7 +45,7 @@ impl TaskQueue {
 
     // Takes a job that is released at this clock, unless four wait.
     pub(crate) fn post(&mut self, clock: u64) -> Result<(), Full<Release>>
-        requires { (clock ≤ 1099511627776) × (unwrap_or (standing self.old).last 0 ≤ clock) }
+        requires { (clock ≤ clock_end) × (unwrap_or (standing self.old).last 0 ≤ clock) }
         ensures { TakenIn self.old clock result self.new }
     {
         let mut places = self.places;
