@@ -24,9 +24,6 @@ byte_fits f lanes lane h =
     let bits = map f (count_from lane (lanes - lane)) in
     let few = byte_below bits 4 (omega (arith, length-map (count_from lane (lanes - lane)) f, length-counted lane (lanes - lane))) in omega arith
 
-pub byte_none : (f : ℕ → Bool) (lanes : ℕ) → byte_from f lanes lanes ≡ 0
-byte_none f lanes = let none : lanes - lanes ≡ 0 = omega arith in ap (λ n. byte_of (map f (count_from lanes n))) none
-
 pub byte_all : (f : ℕ → Bool) (lanes : ℕ) → byte_from f lanes 0 ≡ byte_of (map f (count_from 0 lanes))
 byte_all f lanes = let all : lanes - 0 ≡ lanes = omega arith in ap (λ n. byte_of (map f (count_from 0 n))) all
 

@@ -2,8 +2,8 @@
 use Rattle.std.proofs.Common.{◌≡◌, ℕ, zero, suc, ◌+◌, ◌<◌, Bool, true, false, cond, ◌&&◌, eqb, ◌≢◌, ◌⊎◌, List, [], ◌∷◌, map, length, get_or, drop, set, is_some, Some, None, filter, Option, sym, refl, ap, ◌∙◌, subst, inl, inr, ⊎_elim, arith}
 use Rattle.std.specs.List.{AllByRecursion}
 use Rattle.std.proofs.ByRecursion.{All-from_get_or, all_kept_by}
-use Rattle.std.proofs.lemmas.List.{at_drop_more, get_or-set_other, get_or-set_same}
-use Rattle.std.proofs.lemmas.Bool.{and_from, and_left, and_right, both_ways, cond_both, cond-false, cond-true, eq-eqb, eqb-false, eqb-true, ne_eqb}
+use Rattle.std.proofs.lemmas.List.{get_or-set_other, get_or-set_same}
+use Rattle.std.proofs.lemmas.Bool.{both_ways, cond_both, eqb-false, eqb-true}
 use Rattle.fit.specs.Lane.{Job, Standing, after_service, serve, unreleased}
 use Rattle.plan.specs.Placing.{lane_of, record_of}
 use Rattle.tasks.specs.declared.record.TaskRecord.{TaskRecord}
@@ -56,23 +56,25 @@ in_place x (y ∷ ys) h =
     let more = in_place x ys (⊎_elim (λ same. absurd (eqb-false y x e same)) (λ m. m) h) in
     (omega (arith, more.0), more.1))
 
+-- A place among the later tasks.
+abbrev pub one_on : Option ℕ → Option ℕ
+one_on None = None
+one_on (Some place) = Some (suc place)
+
 module _ (ss : List Standing) where
   -- The first of these numbers whose task has a waiting job.
   abbrev pub first-number : List ℕ → Option ℕ
   first-number [] = None
   first-number (n ∷ ns) = cond (has_job (stands_at ss n)) (Some n) (first-number ns)
 
-  abbrev further : Option ℕ → Option ℕ
-  further o = elim o [ None ↦ None | Some place ↦ Some (suc place) ]
-
   abbrev first_of : List Job → Option ℕ → Option ℕ
-  first_of waiting o = elim waiting [ [] ↦ further o | job ∷ jobs ↦ Some 0 ]
+  first_of waiting o = elim waiting [ [] ↦ one_on o | job ∷ jobs ↦ Some 0 ]
 
   -- What is read off the place of the first that waits is read off its number.
   module _ {X : Type 0} (read : List ℕ → Option ℕ → X) (shift_none : (n : ℕ) (ns : List ℕ) → read (n ∷ ns) None ≡ read ns None)
       (shift_some : (n : ℕ) (ns : List ℕ) (place : ℕ) → read (n ∷ ns) (Some (suc place)) ≡ read ns (Some place))
       (pick : Option ℕ → X) (none : read [] None ≡ pick None) (here : (n : ℕ) (ns : List ℕ) → read (n ∷ ns) (Some 0) ≡ pick (Some n)) where
-    shift : (n : ℕ) (ns : List ℕ) (o : Option ℕ) → read (n ∷ ns) (further o) ≡ read ns o
+    shift : (n : ℕ) (ns : List ℕ) (o : Option ℕ) → read (n ∷ ns) (one_on o) ≡ read ns o
     shift n ns None = shift_none n ns
     shift n ns (Some place) = shift_some n ns place
 
@@ -192,18 +194,3 @@ module _ (ss : List Standing) where
 module _ (plan : List ℕ) (lane : ℕ) (ss : List Standing) (ns : List ℕ) (k : ℕ) (h : k < length ns) (number : ℕ) (is : number ≡ get_or ns k 0) where
   abbrev rest : Option ℕ
   rest = next_on plan lane ss (drop (k + 1) ns)
-
-  here_or_on : next_on plan lane ss (drop k ns) ≡ cond (eqb (lane_of plan number) lane && has_job (stands_at ss number)) (Some number) rest
-  here_or_on =
-      at_drop_more (next_on plan lane ss) ns k 0 h
-      ∙ ap (λ (n : ℕ). cond (eqb (lane_of plan n) lane && has_job (stands_at ss n)) (Some n) rest) (sym is)
-
-  pub found_here : lane_of plan number ≡ lane → has_job (stands_at ss number) ≡ true → next_on plan lane ss (drop k ns) ≡ Some number
-  found_here l j = here_or_on ∙ cond-true _ (Some number) rest (and_from _ _ (eq-eqb (lane_of plan number) lane l) j)
-
-  pub not-here : (lane_of plan number ≡ lane → ⊥) ⊎ (has_job (stands_at ss number) ≡ false) → next_on plan lane ss (drop k ns) ≡ rest
-  not-here other =
-      here_or_on
-      ∙ cond-false _ (Some number) rest (⊎_elim
-      (λ (n : lane_of plan number ≡ lane → ⊥). and_left (eqb (lane_of plan number) lane) _ (ne_eqb (lane_of plan number) lane n))
-      (λ (j : has_job (stands_at ss number) ≡ false). and_right (eqb (lane_of plan number) lane) _ j) other)

@@ -35,9 +35,6 @@ after_call_ways P b call accepted refused =
 pub after-accepted : (b : PlainBoard) (call : Call) → refusal b call ≡ None → after_call b call ≡ accepted_board b call
 after-accepted b call none = ap (left_by b call) none
 
-pub after-refused : (b : PlainBoard) (call : Call) (fault : BoardFault) → refusal b call ≡ Some fault → after_call b call ≡ b
-after-refused b call fault some = ap (left_by b call) some
-
 -- No call changes the tasks and the plan: what is so of them stays so.
 module _ (P : List TaskRecord → List ℕ → Type 0) where
   kept_when_accepted : (b : PlainBoard) (call : Call) → P b.tasks b.plan → P (accepted_board b call).tasks (accepted_board b call).plan
@@ -58,13 +55,6 @@ module _ (P : List TaskRecord → List ℕ → Type 0) where
 abbrev HasNone : Option BoardFault → Type 0
 HasNone None = Unit {0}
 HasNone (Some fault) = ⊥
-
--- Where no fault is the first, none is.
-pub first-none :
-    (o : Option BoardFault) (faults : List (Option BoardFault)) → first_fault (o ∷ faults) ≡ None
-    → (o ≡ None) × (first_fault faults ≡ None)
-first-none None faults e = (refl, e)
-first-none (Some fault) faults e = absurd (subst HasNone (sym e) tt)
 
 pub no_fault :
     (applies : Bool) (fault : BoardFault) (faults : List (Option BoardFault))

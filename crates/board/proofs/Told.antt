@@ -9,7 +9,7 @@ use Rattle.board.specs.declared.call.Call.{Call}
 use Rattle.board.specs.PlainBoard.{PlainBoard, after_end, after_service, bit, closes_at_end, first_closes, first_waiting, lane_standings, new_board}
 use Rattle.board.specs.Promise.{AlwaysTold, ClosingsAreTold, board_at, jobs_on}
 use Rattle.board.proofs.Bytes.{bit-counted}
-use Rattle.board.proofs.FirstWaiting.{one_on}
+use Rattle.board.proofs.Lanes.{one_on}
 use Rattle.board.proofs.Run.{Run, WorksFit, counted-at, run-after_calls, run_from_new}
 
 abbrev many : Standing → ℕ
