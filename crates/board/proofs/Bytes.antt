@@ -3,7 +3,7 @@ use Rattle.std.proofs.Common.{◌≡◌, ℕ, zero, suc, ◌+◌, ◌*◌, ◌/�
 use native.Mathlib.Nat.{div-div-eq-div-mul, pow-succ', zero-div}
 use Rattle.std.proofs.lemmas.Bool.{eq-eqb, ne_eqb}
 use Rattle.board.specs.PlainBoard.{bit, byte_of, count_from}
-use Rattle.board.proofs.Run.{counted-at}
+use Rattle.board.proofs.Counted.{counted-at}
 
 half_of : (b : Bool) (n : ℕ) → (cond b 1 0 + 2 * n) / 2 ≡ n
 half_of true n = omega arith

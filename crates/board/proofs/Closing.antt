@@ -13,7 +13,8 @@ use Rattle.board.specs.PlainBoard.{PlainBoard, accepted_board, after_end, after_
 use Rattle.board.specs.Promise.{AlwaysClosedRightly, ClosedRightly, Rightly, Waits, board_at}
 use Rattle.board.proofs.Lanes.{one_on}
 use Rattle.board.proofs.Places.{number-at-place, record_at_place}
-use Rattle.board.proofs.Run.{after_call_ways, counted-at}
+use Rattle.board.proofs.Counted.{counted-at}
+use Rattle.board.proofs.Run.{after_call_ways}
 
 -- No job with the release waits.
 abbrev Gone : List Job → Job → Type 0

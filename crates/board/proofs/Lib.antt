@@ -1,5 +1,6 @@
 pub mod Bytes
 pub mod Closing
+pub mod Counted
 pub mod Empty
 pub mod Filling
 pub mod Judged

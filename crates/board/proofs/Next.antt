@@ -3,7 +3,7 @@ use Rattle.std.proofs.Common.{◌≡◌, ℕ, ◌<◌, ◌≤◌, Bool, true, fa
 use Rattle.std.specs.List.{AllByRecursion}
 use Rattle.std.proofs.ByRecursion.{All-from_get_or, All-get_or}
 use Rattle.std.proofs.lemmas.List.{get_or_past, get_or-replicate, get_or-set_other, get_or-set_same, get_or-take}
-use Rattle.std.proofs.lemmas.Bool.{and_left, and_parts, and_right, cases_eq, cases_lt, cond_both, cond-false, eq-eqb, eqb-true, false≢true, ne_eqb}
+use Rattle.std.proofs.lemmas.Bool.{and_left, and_parts, and_right, cases_eq, cases_lt, cond_both, cond-false, eq-eqb, eqb-true, ne_eqb}
 use Rattle.fit.specs.Lane.{Job, Standing, served_once, unreleased}
 use Rattle.plan.specs.Placing.{lane_of, order, record_of}
 use Rattle.plan.proofs.Order.{length-order, turn-within}
@@ -24,8 +24,8 @@ on_lane seats task inside =
 
 is_same : (a b : Option ℕ) → same_number a b ≡ true → a ≡ b
 is_same None None e = refl
-is_same None (Some n) e = absurd (false≢true e)
-is_same (Some m) None e = absurd (false≢true e)
+is_same None (Some n) e = cc
+is_same (Some m) None e = cc
 is_same (Some m) (Some n) e = ap Some (eqb-true m n e)
 
 same_itself : (a : Option ℕ) → same_number a a ≡ true

@@ -44,7 +44,7 @@ length_releases places = length-in_order released_before (held places) ∙ sym (
 
 -- What is not later than the last release is not later than any clock from there on.
 not_later : (last : Option ℕ) (clock : ℕ) → unwrap_or last 0 ≤ clock → (r : Release) → later_than last r ≡ false → ltb clock r.at ≡ false
-not_later None clock h r e = let z : ◌≡◌ {A = ℕ} 0 1 = cc in absurd (omega arith)
+not_later None clock h r e = cc
 not_later (Some last) clock h r e = grind (arith, nat_tests)
 
 module _ (last : Option ℕ) (clock : ℕ) (past : unwrap_or last 0 ≤ clock) (old : List (Option Release)) (none : count (later_than last) old ≡ 0) where
@@ -131,12 +131,12 @@ releases_empty places e = holding_empty places (releases places) (λ test. sym (
 
 -- How many jobs wait, from whether one does.
 pub waits-some : (jobs : List Job) → true ≡ elim jobs [ [] ↦ false | job ∷ more ↦ true ] → 0 < length jobs
-waits-some [] e = let z : ◌≡◌ {A = ℕ} 0 1 = cc in absurd (omega arith)
+waits-some [] e = absurd cc
 waits-some (job ∷ jobs) e = omega arith
 
 pub waits-none : (jobs : List Job) → false ≡ elim jobs [ [] ↦ false | job ∷ more ↦ true ] → length jobs ≡ 0
 waits-none [] e = refl
-waits-none (job ∷ jobs) e = let z : ◌≡◌ {A = ℕ} 0 1 = cc in absurd (omega arith)
+waits-none (job ∷ jobs) e = absurd cc
 
 module _ (t : TaskRecord) (said : Bool) (last : Option ℕ) (served : ℕ) where
   abbrev Serves : Bool → List Release → ℕ → List Release → Type 0

@@ -14,7 +14,8 @@ use Rattle.board.specs.declared.board.Board.{Board}
 use Rattle.board.specs.declared.fault.BoardFault.{BoardFault}
 use Rattle.board.specs.declared.fault.BoardFault.TheVariants.{Early, NoTask, NotServed, QueueFull, SlotOpen}
 use Rattle.board.proofs.Next.{on_lane}
-use Rattle.board.proofs.View.{length-map-counted, stands-is, with_standing-is}
+use Rattle.board.proofs.Counted.{length-counted}
+use Rattle.board.proofs.View.{stands-is, with_standing-is}
 
 -- A fault that does not apply is passed over; the first that applies is given.
 module _ {applies : Bool} (fault : BoardFault) (faults : List (Option BoardFault)) where
@@ -32,7 +33,7 @@ module _ (b : Board) where
   length-standings = length-map b.jobs.queues standing ∙ b.jobs.long
 
   pub length-lanes : length (view b).lanes ≡ b.seats.list.lanes
-  length-lanes = length-map-counted (lane_of_standings (tasks_on b.seats) (plan_of b.seats) (standings_on b)) b.seats.list.lanes
+  length-lanes = length-counted (lane_of_standings (tasks_on b.seats) (plan_of b.seats) (standings_on b)) b.seats.list.lanes
 
   module _ (task : ℕ) (inside : task < length (tasks_on b.seats)) where
     pub view-stands : standing_of (view b) task ≡ stands_at (standings_on b) task

@@ -19,7 +19,8 @@ use Rattle.board.specs.declared.seats.Seats.{Seats}
 use Rattle.board.proofs.LaneBytes.{byte_from, byte_more}
 use Rattle.board.proofs.Refusals.{few-tasks, length-lanes, length-standings}
 use Rattle.board.proofs.Lanes.{all_aside, closes-first, distinct_kept, next-first, serve-first}
-use Rattle.board.proofs.View.{lane-stands, length-map-counted, map-counted, order_distinct}
+use Rattle.board.proofs.Counted.{counted-at, length-counted}
+use Rattle.board.proofs.View.{lane-stands, order_distinct}
 
 module _ (tasks : List TaskRecord) (plan : List ℕ) (ss : List Standing) (lane : ℕ) (said : Bool) where
   abbrev ns : List ℕ
@@ -152,10 +153,10 @@ module _ (before : Board) (finished : ℕ) where
 
 counted_same : {X : Type 0} (f g : ℕ → X) (d : X) (n : ℕ) → ((k : ℕ) → k < n → f k ≡ g k) → map f (count_from 0 n) ≡ map g (count_from 0 n)
 counted_same f g d n h =
-    ext_get_or d (map f (count_from 0 n)) (map g (count_from 0 n)) (length-map-counted f n ∙ sym (length-map-counted g n))
+    ext_get_or d (map f (count_from 0 n)) (map g (count_from 0 n)) (length-counted f n ∙ sym (length-counted g n))
     (λ k l.
-    let within : k < n = omega (arith, length-map-counted f n) in
-    map-counted f n k d within ∙ (h k within ∙ sym (map-counted g n k d within)))
+    let within : k < n = omega (arith, length-counted f n) in
+    counted-at f n k d within ∙ (h k within ∙ sym (counted-at g n k d within)))
 
 -- The board after every lane was served, the slot shut and the clock one higher.
 pub ended :

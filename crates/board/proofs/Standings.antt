@@ -1,7 +1,6 @@
 -- One task's queue among all: how its task stands, and what a step of it leaves.
 use Rattle.std.proofs.Common.{MatchResult, is_ok, ◌≡◌, ℕ, ◌<◌, ◌≤◌, List, map, length, get_or, set, Ok, Err, Result, sym, ap, ◌∙◌, subst}
 use Rattle.std.proofs.lemmas.List.{get_or-map, map-set, set-get_or}
-use Rattle.std.proofs.lemmas.Bool.{false≢true}
 use Rattle.std.specs.Result.{IsErrAnd}
 use Rattle.fit.specs.Lane.{Standing, unreleased, with_job}
 use Rattle.board.specs.Queues.{JobTaken, TakenIn, standing, stands_at}
@@ -33,8 +32,8 @@ module _ {E F : Type 0} where
       (before after : List Standing) (number clock : ℕ) (r : Result (Unit {0}) E) (r' : Result (Unit {0}) F) → is_ok r' ≡ is_ok r
       → JobTaken before number clock r after → JobTaken before number clock r' after
   as-mapped before after number clock (Ok _) (Ok _) e t = t
-  as-mapped before after number clock (Ok _) (Err _) e t = absurd (false≢true e)
-  as-mapped before after number clock (Err _) (Ok _) e t = absurd (false≢true (sym e))
+  as-mapped before after number clock (Ok _) (Err _) e t = absurd cc
+  as-mapped before after number clock (Err _) (Ok _) e t = absurd cc
   as-mapped before after number clock (Err _) (Err _) e t = t
 
   pub fault-mapped :

@@ -10,7 +10,8 @@ use Rattle.board.specs.PlainBoard.{PlainBoard, after_end, after_service, bit, cl
 use Rattle.board.specs.Promise.{AlwaysTold, ClosingsAreTold, board_at, jobs_on}
 use Rattle.board.proofs.Bytes.{bit-counted}
 use Rattle.board.proofs.Lanes.{one_on}
-use Rattle.board.proofs.Run.{Run, WorksFit, counted-at, run-after_calls, run_from_new}
+use Rattle.board.proofs.Counted.{counted-at}
+use Rattle.board.proofs.Run.{Run, WorksFit, run-after_calls, run_from_new}
 
 abbrev many : Standing → ℕ
 many s = length s.waiting

@@ -1,6 +1,5 @@
 -- The seats are those of the list and the plan, and nothing waits.
 use Rattle.std.proofs.Common.{ℕ, false, List, map, replicate, ap, ◌∙◌, arith}
-use Rattle.std.proofs.lemmas.Bool.{false≢true}
 use Rattle.fit.specs.Lane.{Standing, unreleased}
 use Rattle.tasks.specs.Filling.{tasks_of}
 use Rattle.tasks.specs.declared.list.TaskList.{TaskList}
@@ -18,7 +17,7 @@ invariant_of-self g c =
     record {
       at_hand = none-next (tasks_on seats) (plan_of seats) (map standing jobs.queues) _ c.none.ensures.queues c.none.ensures.next;
       in_time = omega arith;
-      open_in_time = λ e. absurd (false≢true e);
+      open_in_time = λ e. absurd cc;
     }
 
 pub returns : goal.returns
