@@ -1,6 +1,6 @@
 -- The tasks of a lane by their numbers: which is served, what one slot leaves, and what a change of one task changes.
-use Rattle.std.proofs.Common.{◌≡◌, ℕ, zero, suc, ◌+◌, ◌<◌, Bool, true, false, cond, ◌&&◌, eqb, ◌≢◌, ◌⊎◌, List, [], ◌∷◌, map, length, get_or, drop, set, is_some, Some, None, filter, Option, sym, refl, ap, ◌∙◌, subst, inl, inr, ⊎_elim, arith}
-use Rattle.std.specs.List.{AllByRecursion}
+use Rattle.std.proofs.Common.{◌≡◌, ℕ, zero, suc, ◌<◌, Bool, true, false, cond, ◌&&◌, eqb, ◌≢◌, ◌⊎◌, List, [], ◌∷◌, map, length, get_or, set, is_some, Some, None, filter, Option, sym, refl, ap, ◌∙◌, subst, inl, inr, ⊎_elim, arith}
+use Rattle.std.specs.List.{AllByRecursion, find}
 use Rattle.std.proofs.ByRecursion.{All-from_get_or, all_kept_by}
 use Rattle.std.proofs.lemmas.List.{get_or-set_other, get_or-set_same}
 use Rattle.std.proofs.lemmas.Bool.{both_ways, cond_both, eqb-false, eqb-true}
@@ -9,7 +9,7 @@ use Rattle.plan.specs.Placing.{lane_of, record_of}
 use Rattle.tasks.specs.declared.record.TaskRecord.{TaskRecord}
 use Rattle.board.specs.PlainBoard.{first_closes, first_waiting, place_among}
 use Rattle.board.specs.Queues.{after_slot_of, has_job, stands_at}
-use Rattle.board.specs.Steps.{next_on, served_by}
+use Rattle.board.specs.Steps.{closed_by, next_on, served_by}
 
 -- A number among others, and numbers that are all different.
 abbrev pub In : ℕ → List ℕ → Type 0
@@ -64,8 +64,7 @@ one_on (Some place) = Some (suc place)
 module _ (ss : List Standing) where
   -- The first of these numbers whose task has a waiting job.
   abbrev pub first-number : List ℕ → Option ℕ
-  first-number [] = None
-  first-number (n ∷ ns) = cond (has_job (stands_at ss n)) (Some n) (first-number ns)
+  first-number = find (λ n. has_job (stands_at ss n))
 
   abbrev first_of : List Job → Option ℕ → Option ℕ
   first_of waiting o = elim waiting [ [] ↦ one_on o | job ∷ jobs ↦ Some 0 ]
@@ -179,18 +178,10 @@ module _ (ss : List Standing) where
               ∙ ap (λ xs. stands_at (after (first-number ns)) n ∷ xs) (serve-first ns d.1 a.1)
         ]
 
-    abbrev closing : Option ℕ → Bool
-    closing o = elim o [ None ↦ false | Some n ↦ first_closes (record_of tasks n) said (stands_at ss n).waiting ]
-
     pub closes-first :
         (ns : List ℕ)
         → elim (first_waiting (map (stands_at ss) ns)) [ None ↦ false | Some place ↦ first_closes (get_or (map (record_of tasks) ns) place (record_of [] 0)) said (get_or (map (stands_at ss) ns) place unreleased).waiting ]
-        ≡ closing (first-number ns)
+        ≡ closed_by tasks said ss (first-number ns)
     closes-first =
         read_first (λ ns o. elim o [ None ↦ false | Some place ↦ first_closes (get_or (map (record_of tasks) ns) place (record_of [] 0)) said (get_or (map (stands_at ss) ns) place unreleased).waiting ])
-        (λ n ns. refl) (λ n ns place. refl) closing refl (λ n ns. refl)
-
--- Going through the tasks in order, up to the one that is served.
-module _ (plan : List ℕ) (lane : ℕ) (ss : List Standing) (ns : List ℕ) (k : ℕ) (h : k < length ns) (number : ℕ) (is : number ≡ get_or ns k 0) where
-  abbrev rest : Option ℕ
-  rest = next_on plan lane ss (drop (k + 1) ns)
+        (λ n ns. refl) (λ n ns place. refl) (closed_by tasks said ss) refl (λ n ns. refl)

@@ -11,7 +11,7 @@ use Rattle.tasks.specs.declared.record.TaskRecord.{TaskRecord}
 use Rattle.board.specs.PlainBoard.{first_closes}
 use Rattle.board.specs.Queues.{after_slot_of, has_job, standing, stands_at}
 use Rattle.board.specs.Seating.{plan_of, tasks_on}
-use Rattle.board.specs.Steps.{AreNext, KnowsNext, SlotGiven, next_on, next_task, same_number, served_by}
+use Rattle.board.specs.Steps.{AreNext, KnowsNext, closed_by, SlotGiven, next_on, next_task, same_number, served_by}
 use Rattle.board.specs.declared.jobs.Jobs.{Jobs}
 use Rattle.board.specs.declared.seats.Seats.{Seats}
 use Rattle.board.proofs.View.{fresh-stands}
@@ -172,7 +172,7 @@ module _ (tasks : List TaskRecord) (plan : List ℕ) (ss : List Standing) (next 
         closes =
             closes
             ∙ (ap (λ (x : TaskRecord). first_closes x said (stands_at ss n).waiting) is
-            ∙ ap (λ (o : Option ℕ). elim o [ None ↦ false | Some m ↦ first_closes (record_of tasks m) said (stands_at ss m).waiting ]) serves_it);
+            ∙ ap (closed_by tasks said ss) serves_it);
       }
 
 -- Where the lane serves no task, none was given a slot.
@@ -182,7 +182,7 @@ pub given_none :
 given_none tasks plan ss lane none said =
     record {
       stands = ap (served_by tasks said ss) none;
-      closes = ap (λ (o : Option ℕ). elim o [ None ↦ false | Some n ↦ first_closes (record_of tasks n) said (stands_at ss n).waiting ]) none;
+      closes = ap (closed_by tasks said ss) none;
     }
 
 -- Whichever the lane: past the fourth no number is at hand, and no task is served.

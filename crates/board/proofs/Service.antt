@@ -12,7 +12,7 @@ use Rattle.board.specs.PlainBoard.{after_end, after_service, bit, byte_of, close
 use Rattle.board.specs.Queues.{stands_at}
 use Rattle.board.specs.Seating.{plan_of, tasks_on}
 use Rattle.board.specs.Serving.{LanesServed, SameButJobs}
-use Rattle.board.specs.Steps.{SlotGiven, next_on, served_by}
+use Rattle.board.specs.Steps.{SlotGiven, closed_by, next_on, served_by}
 use Rattle.board.specs.View.{board_of, lane_of_standings, numbers_on, standings_on, view}
 use Rattle.board.specs.declared.board.Board.{Board}
 use Rattle.board.specs.declared.seats.Seats.{Seats}
@@ -58,10 +58,10 @@ module _ (tasks : List TaskRecord) (plan : List ℕ) (ss : List Standing) (lane 
   abbrev closing_on : List Standing → Bool
   closing_on stands = elim (first_waiting stands) [ None ↦ false | Some place ↦ first_closes (get_or (lane_row tasks plan lane) place (record_of [] 0)) said (get_or stands place unreleased).waiting ]
 
-  pub lane-closes : closing_on (map (stands_at ss) ns) ≡ elim next [ None ↦ false | Some n ↦ first_closes (record_of tasks n) said (stands_at ss n).waiting ]
+  pub lane-closes : closing_on (map (stands_at ss) ns) ≡ closed_by tasks said ss next
   lane-closes =
       closes-first ss tasks said ns
-      ∙ ap (λ (o : Option ℕ). elim o [ None ↦ false | Some n ↦ first_closes (record_of tasks n) said (stands_at ss n).waiting ]) (sym (next-first ss plan lane (order tasks)))
+      ∙ ap (closed_by tasks said ss) (sym (next-first ss plan lane (order tasks)))
 
 above : (k low : ℕ) {lane : ℕ} → low ≤ k → (k ≡ low → ⊥) → lane - 1 ≡ low → 0 < lane → lane ≤ k
 above k low h e is some = ⊎_elim (λ (l : k < low + 1). absurd (e (omega arith))) (λ (l : low + 1 ≤ k). omega arith) (cases_lt k (low + 1))
@@ -107,9 +107,9 @@ module _ (before : Board) (finished : ℕ) where
         subst (λ (seats : Seats). standings_on after ≡ served_by (tasks_on seats) said ss (next_on (plan_of seats) low ss (order (tasks_on seats))))
         half.same.seats served.stands
 
-    closing : closed ≡ elim (next_on P low ss (order T)) [ None ↦ false | Some n ↦ first_closes (record_of T n) said (stands_at ss n).waiting ]
+    closing : closed ≡ closed_by T said ss (next_on P low ss (order T))
     closing =
-        subst (λ (seats : Seats). closed ≡ elim (next_on (plan_of seats) low ss (order (tasks_on seats))) [ None ↦ false | Some n ↦ first_closes (record_of (tasks_on seats) n) said (stands_at ss n).waiting ])
+        subst (λ (seats : Seats). closed ≡ closed_by (tasks_on seats) said ss (next_on (plan_of seats) low ss (order (tasks_on seats))))
         half.same.seats served.closes
 
     as_before : lane_of_standings T P ss low ≡ lane_standings (view before) low

@@ -38,7 +38,12 @@ abbrev pub served_by : List TaskRecord → Bool → List Standing → Option ℕ
 served_by tasks said standings number =
     elim number [ None ↦ standings | Some n ↦ slice_set standings n (after_slot_of (record_of tasks n) said (stands_at standings n)) ]
 
+-- Whether the job that it goes to closes with it, if there is one.
+abbrev pub closed_by : List TaskRecord → Bool → List Standing → Option ℕ → Bool
+closed_by tasks said standings number =
+    elim number [ None ↦ false | Some n ↦ first_closes (record_of tasks n) said (stands_at standings n).waiting ]
+
 -- One slot was given to the task that the lane serves, and to no other.
 pub record SlotGiven (tasks : List TaskRecord) (plan : List ℕ) (before : List Standing) (lane : ℕ) (said closed : Bool) (after : List Standing) : Type 0 where
   pub stands : after ≡ served_by tasks said before (next_task tasks plan before lane)
-  pub closes : closed ≡ elim (next_task tasks plan before lane) [ None ↦ false | Some n ↦ first_closes (record_of tasks n) said (stands_at before n).waiting ]
+  pub closes : closed ≡ closed_by tasks said before (next_task tasks plan before lane)
