@@ -72,6 +72,7 @@ impl Jobs {
     }
 
     // Takes a job of the task that is released at this clock, unless four wait. Its lane looks anew.
+    // The seats are lent and no field: the board's invariant ties both, and would have to hold after `post` on the queue alone.
     pub(crate) fn post(
         &mut self,
         seats: &Seats,
@@ -85,6 +86,7 @@ impl Jobs {
         ensures taken { JobTaken (map standing self.old.queues) number clock result (map standing self.new.queues) }
         ensures at_hand { KnowsNext seats.now self.new }
     {
+        // As a slice: the borrow checker cannot yet lend one element of an array field.
         let queues: &mut [TaskQueue] = &mut self.queues;
         queues[number].post(clock)?;
         let lane = seats.lane(number);

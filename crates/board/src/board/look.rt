@@ -56,6 +56,7 @@ impl Board {
     }
 
     // Serves one slot on every lane. Bit k of the answer says that the job of lane k closes.
+    // Not one function with `busy_lanes`: its closure would change the jobs, and a contract that tells of each call is longer than both loops.
     pub(crate) fn serve_lanes(&mut self, finished: u8) -> u8
         ensures { LanesServed self.old finished result self.new }
     {

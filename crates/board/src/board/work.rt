@@ -57,6 +57,7 @@ impl Board {
     }
 
     // Makes this a new board, of the list's tasks on the lanes of the plan, at the starting clock.
+    // List, plan, clock and test are the caller's own four things: a struct of them would only be taken apart here.
     pub fn set_up<F: FitTest>(
         &mut self,
         list: &TaskList,

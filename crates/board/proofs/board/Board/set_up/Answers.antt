@@ -10,15 +10,9 @@ use Rattle.board.proofs.Next.{none-next}
 use Rattle.board.proofs.View.{fresh_board}
 use Rattle.board.proofs.board.Board.set_up.Goals as goal
 
-pub invariant_of-self : goal.invariant_of-self
-invariant_of-self g c =
-    let seats = c.new.result in
-    let jobs = c.none.result in
-    record {
-      at_hand = none-next (tasks_on seats) (plan_of seats) (map standing jobs.queues) _ c.none.ensures.queues c.none.ensures.next;
-      in_time = omega arith;
-      open_in_time = λ e. absurd cc;
-    }
+pub invariant_of-self-clause-at_hand : goal.invariant_of-self-clause-at_hand
+invariant_of-self-clause-at_hand g c =
+    none-next (tasks_on c.new.result) (plan_of c.new.result) (map standing c.none.result.queues) _ c.none.ensures.queues c.none.ensures.next
 
 pub returns : goal.returns
 returns g c =

@@ -6,17 +6,22 @@ use Rattle.board.specs.Queues.{jobs_of, standing}
 use Rattle.board.proofs.Queue.{jobs_push, length_releases, length-standing, none_later, put_room, releases, releases_full, releases_put}
 use Rattle.board.proofs.task_queue.TaskQueue.post.Goals as goal
 
-pub invariant_of-self : goal.invariant_of-self
-unfolding standing
-invariant_of-self c =
+pub invariant_of-self-clause-four : goal.invariant_of-self-clause-four
+invariant_of-self-clause-four c =
     let q = c.args.self.now in
     let put = c.in_ok-put.ensures in
-    record {
-      four = ap length put.after ∙ (length-set q.places put.place _ ∙ q.four);
-      no_later = none_later q.last c.args.clock c.requires.1 q.places q.no_later _ refl c.put.new.places put;
-      in_time = c.requires.0;
-      idle = λ e. absurd (omega (arith, e, put.counted (λ _. true)));
-    }
+    ap length put.after ∙ (length-set q.places put.place _ ∙ q.four)
+
+pub invariant_of-self-clause-no_later : goal.invariant_of-self-clause-no_later
+unfolding standing
+invariant_of-self-clause-no_later c =
+    let q = c.args.self.now in
+    none_later q.last c.args.clock c.requires.1 q.places q.no_later _ refl c.put.new.places c.in_ok-put.ensures
+
+pub invariant_of-self-clause-idle : goal.invariant_of-self-clause-idle
+invariant_of-self-clause-idle c =
+    let put = c.in_ok-put.ensures in
+    λ e. absurd (omega (arith, e, put.counted (λ _. true)))
 
 pub returns : goal.returns
 unfolding standing
