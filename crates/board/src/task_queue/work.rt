@@ -12,6 +12,7 @@ use tasks::record::TaskRecord;
 
 impl TaskQueue {
     // The queue of a task that has released nothing.
+    #[tactic(auto, unfolding(crate::specs::Queues::standing))]
     pub(crate) fn new() -> TaskQueue
         ensures { standing result ≡ unreleased }
     {

@@ -1,16 +1,9 @@
 -- A job that is taken comes last; it is refused where four wait.
-use Rattle.std.proofs.Common.{true, length, Some, sym, refl, ap, ◌∙◌, arith}
-use Rattle.std.proofs.lemmas.List.{length-set}
+use Rattle.std.proofs.Common.{true, Some, sym, refl, ap, ◌∙◌, arith}
 use Rattle.std.proofs.lemmas.Result.{err_from_is_err_and}
 use Rattle.board.specs.Queues.{jobs_of, standing}
 use Rattle.board.proofs.Queue.{jobs_push, length_releases, length-standing, none_later, put_room, releases, releases_full, releases_put}
 use Rattle.board.proofs.task_queue.TaskQueue.post.Goals as goal
-
-pub invariant_of-self-clause-four : goal.invariant_of-self-clause-four
-invariant_of-self-clause-four c =
-    let q = c.args.self.now in
-    let put = c.in_ok-put.ensures in
-    ap length put.after ∙ (length-set q.places put.place _ ∙ q.four)
 
 pub invariant_of-self-clause-no_later : goal.invariant_of-self-clause-no_later
 unfolding standing
