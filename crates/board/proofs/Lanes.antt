@@ -61,6 +61,14 @@ abbrev pub one_on : Option ℕ → Option ℕ
 one_on None = None
 one_on (Some place) = Some (suc place)
 
+-- Whether the job of the task at this place of a lane closes, and whether that of the task which the lane serves does.
+abbrev pub closes_at : Bool → List TaskRecord → List Standing → Option ℕ → Bool
+closes_at said row ss None = false
+closes_at said row ss (Some place) = first_closes (get_or row place (record_of [] 0)) said (get_or ss place unreleased).waiting
+
+abbrev pub closing : Bool → List TaskRecord → List Standing → Bool
+closing said row ss = closes_at said row ss (first_waiting ss)
+
 module _ (ss : List Standing) where
   -- The first of these numbers whose task has a waiting job.
   abbrev pub first-number : List ℕ → Option ℕ
@@ -179,9 +187,7 @@ module _ (ss : List Standing) where
         ]
 
     pub closes-first :
-        (ns : List ℕ)
-        → elim (first_waiting (map (stands_at ss) ns)) [ None ↦ false | Some place ↦ first_closes (get_or (map (record_of tasks) ns) place (record_of [] 0)) said (get_or (map (stands_at ss) ns) place unreleased).waiting ]
-        ≡ closed_by tasks said ss (first-number ns)
+        (ns : List ℕ) → closing said (map (record_of tasks) ns) (map (stands_at ss) ns) ≡ closed_by tasks said ss (first-number ns)
     closes-first =
-        read_first (λ ns o. elim o [ None ↦ false | Some place ↦ first_closes (get_or (map (record_of tasks) ns) place (record_of [] 0)) said (get_or (map (stands_at ss) ns) place unreleased).waiting ])
+        read_first (λ ns o. closes_at said (map (record_of tasks) ns) (map (stands_at ss) ns) o)
         (λ n ns. refl) (λ n ns place. refl) (closed_by tasks said ss) refl (λ n ns. refl)

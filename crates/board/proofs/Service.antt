@@ -1,14 +1,14 @@
 -- One slot of service, lane by lane from the last one down.
-use Rattle.std.proofs.Common.{◌≡◌, ℕ, ◌+◌, ◌-◌, ◌*◌, ◌<◌, ◌≤◌, Bool, true, false, cond, eqb, ◌≢◌, List, [], map, length, get_or, Some, None, Option, sym, refl, ap, ◌∙◌, subst, ⊎_elim, arith}
+use Rattle.std.proofs.Common.{◌≡◌, ℕ, ◌+◌, ◌-◌, ◌*◌, ◌<◌, ◌≤◌, Bool, true, false, cond, eqb, ◌≢◌, List, [], map, length, Option, sym, refl, ap, ◌∙◌, subst, ⊎_elim, arith}
 use Rattle.std.specs.List.{AllByRecursion}
 use Rattle.std.proofs.ByRecursion.{All-from_get_or, all_kept_by, All-weaker, kept_by_passes}
 use Rattle.std.proofs.lemmas.List.{ext_get_or}
 use Rattle.std.proofs.lemmas.Bool.{cases_eq, cases_lt, eqb-true}
-use Rattle.fit.specs.Lane.{Standing, serve, unreleased}
-use Rattle.plan.specs.Placing.{lane_of, lane_row, order, record_of}
+use Rattle.fit.specs.Lane.{Standing, serve}
+use Rattle.plan.specs.Placing.{lane_of, lane_row, order}
 use Rattle.plan.proofs.Order.{length-order, turn-within}
 use Rattle.tasks.specs.declared.record.TaskRecord.{TaskRecord}
-use Rattle.board.specs.PlainBoard.{after_end, after_service, bit, byte_of, closed_byte, closes_at_end, count_from, first_closes, first_waiting, lane_standings}
+use Rattle.board.specs.PlainBoard.{after_end, after_service, bit, byte_of, closed_byte, closes_at_end, count_from, lane_standings}
 use Rattle.board.specs.Queues.{stands_at}
 use Rattle.board.specs.Seating.{plan_of, tasks_on}
 use Rattle.board.specs.Serving.{LanesServed, SameButJobs}
@@ -18,7 +18,7 @@ use Rattle.board.specs.declared.board.Board.{Board}
 use Rattle.board.specs.declared.seats.Seats.{Seats}
 use Rattle.board.proofs.LaneBytes.{byte_from, byte_more}
 use Rattle.board.proofs.Refusals.{few-tasks, length-lanes, length-standings}
-use Rattle.board.proofs.Lanes.{all_aside, closes-first, distinct_kept, next-first, serve-first}
+use Rattle.board.proofs.Lanes.{all_aside, closes-first, closing, distinct_kept, next-first, serve-first}
 use Rattle.board.proofs.Counted.{counted-at, length-counted}
 use Rattle.board.proofs.View.{lane-stands, order_distinct}
 
@@ -55,10 +55,7 @@ module _ (tasks : List TaskRecord) (plan : List ℕ) (ss : List Standing) (lane 
       ns (kept_by_passes (λ number. eqb (lane_of plan number) lane) (order tasks)))
       rest (kept_by_passes (λ number. eqb (lane_of plan number) other) (order tasks)))
 
-  abbrev closing_on : List Standing → Bool
-  closing_on stands = elim (first_waiting stands) [ None ↦ false | Some place ↦ first_closes (get_or (lane_row tasks plan lane) place (record_of [] 0)) said (get_or stands place unreleased).waiting ]
-
-  pub lane-closes : closing_on (map (stands_at ss) ns) ≡ closed_by tasks said ss next
+  pub lane-closes : closing said (lane_row tasks plan lane) (map (stands_at ss) ns) ≡ closed_by tasks said ss next
   lane-closes =
       closes-first ss tasks said ns
       ∙ ap (closed_by tasks said ss) (sym (next-first ss plan lane (order tasks)))
@@ -107,8 +104,8 @@ module _ (before : Board) (finished : ℕ) where
         subst (λ (seats : Seats). standings_on after ≡ served_by (tasks_on seats) said ss (next_on (plan_of seats) low ss (order (tasks_on seats))))
         half.same.seats served.stands
 
-    closing : closed ≡ closed_by T said ss (next_on P low ss (order T))
-    closing =
+    closes_as : closed ≡ closed_by T said ss (next_on P low ss (order T))
+    closes_as =
         subst (λ (seats : Seats). closed ≡ closed_by (tasks_on seats) said ss (next_on (plan_of seats) low ss (order (tasks_on seats))))
         half.same.seats served.closes
 
@@ -127,7 +124,7 @@ module _ (before : Board) (finished : ℕ) where
     aside k differ = ap (λ (x : List Standing). lane_of_standings T P x k) stands ∙ lane_aside T P ss low said k differ
 
     bit_is : closed ≡ closes_at_end (view before) finished low
-    bit_is = closing ∙ (sym (lane-closes T P ss low said) ∙ ap (closing_on T P ss low said) as_before)
+    bit_is = closes_as ∙ (sym (lane-closes T P ss low said) ∙ ap (closing said (lane_row T P low)) as_before)
 
     pub half_next : (more : ℕ) → more ≡ cond closed 1 0 + 2 * byte → HalfServed before finished low more after
     half_next more is =

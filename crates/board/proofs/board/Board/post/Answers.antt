@@ -1,6 +1,7 @@
 -- The faults in their order, and a job that is taken.
-use Rattle.std.proofs.Common.{ℕ, ◌+◌, ◌<◌, List, map, length, Result, subst, rules, sym, refl, ap, ◌∙◌, arith}
+use Rattle.std.proofs.Common.{◌≡◌, ℕ, ◌+◌, ◌<◌, List, map, length, Result, subst, rules, sym, refl, ap, ◌∙◌, arith}
 use Rattle.fit.specs.Lane.{Standing, with_job}
+use Rattle.plan.specs.Placing.{record_of}
 use Rattle.tasks.specs.declared.record.TaskRecord.{TaskRecord}
 use Rattle.board.specs.PlainBoard.{next_release, with_standing}
 use Rattle.std.proofs.lemmas.Result.{err_from_is_err_and}
@@ -19,7 +20,7 @@ returns-then-self-next c =
     let b = c.args.self.now in
     let task = c.args.task in
     let inside : task < length (tasks_on b.seats) = omega (arith, c.count.ensures) in
-    let next = c.next_release-next.ensures ∙ (ap (next_release c.task-numbers.result) c.queue.ensures ∙ ap (λ (t : TaskRecord). next_release t (stands_at (standings_on b) task)) c.task-numbers.ensures) in
+    let next : c.next_release-next.result ≡ next_release (record_of (tasks_on b.seats) task) (stands_at (standings_on b) task) = cc in
     (post_early b task inside c.if-self.false c.next_release-next.result next c.if-self-next.true, refl)
 
 pub returns-in_err-map_err : goal.returns-in_err-map_err
@@ -27,7 +28,7 @@ returns-in_err-map_err c =
     let b = c.args.self.now in
     let task = c.args.task in
     let inside : task < length (tasks_on b.seats) = omega (arith, c.count.ensures) in
-    let next = c.next_release-next.ensures ∙ (ap (next_release c.task-numbers.result) c.queue.ensures ∙ ap (λ (t : TaskRecord). next_release t (stands_at (standings_on b) task)) c.task-numbers.ensures) in
+    let next : c.next_release-next.result ≡ next_release (record_of (tasks_on b.seats) task) (stands_at (standings_on b) task) = cc in
     let full =
     subst (λ (r : Result (Unit {0}) BoardFault). JobTaken (standings_on b) task b.clock r (map standing c.post.new.self.queues)) c.in_err-map_err.was
     (as-mapped (standings_on b) (map standing c.post.new.self.queues) task b.clock c.post.result c.map_err.result c.map_err.ensures.variant c.post.ensures.taken) in
@@ -43,7 +44,7 @@ returns c =
     let b = c.args.self.now in
     let task = c.args.task in
     let inside : task < length (tasks_on b.seats) = omega (arith, c.count.ensures) in
-    let next = c.next_release-next.ensures ∙ (ap (next_release c.task-numbers.result) c.queue.ensures ∙ ap (λ (t : TaskRecord). next_release t (stands_at (standings_on b) task)) c.task-numbers.ensures) in
+    let next : c.next_release-next.result ≡ next_release (record_of (tasks_on b.seats) task) (stands_at (standings_on b) task) = cc in
     let taken =
     subst (λ (r : Result (Unit {0}) BoardFault). JobTaken (standings_on b) task b.clock r (map standing c.post.new.self.queues)) c.in_ok-map_err.was
     (as-mapped (standings_on b) (map standing c.post.new.self.queues) task b.clock c.post.result c.map_err.result c.map_err.ensures.variant c.post.ensures.taken) in (
