@@ -1,7 +1,7 @@
 -- What the exact test answers for the list that was read.
-use Rattle.std.proofs.Common.{◌≡◌, ℕ, length, sym, refl, ap, subst, arith}
+use Rattle.std.proofs.Common.{◌≡◌, length, sym, refl, ap, subst, arith}
 use Rattle.bench_exports.proofs.Read.{asked_last, last_asked, last-left, last_taken, none_to_ask}
-use Rattle.bench_exports.specs.Measured.{AskedExact, TakesLast}
+use Rattle.bench_exports.specs.Measured.{TakesLast}
 use Rattle.bench_exports.specs.Measured.AskedExact.{unreadable}
 use Rattle.std.proofs.lemmas.Bool.{true≢false}
 use Rattle.tasks.specs.Filling.{tasks_of}
@@ -9,8 +9,7 @@ use Rattle.bench_exports.proofs.bench_ask_exact.Goals as goal
 
 pub returns-in-Err : goal.returns-in-Err
 returns-in-Err c =
-    subst (λ (code : ℕ). AskedExact c.args.sheet.now code) (sym c.number.ensures)
-    (unreadable c.in-Err.fault c.in-Err.ensures.0)
+    rw c.number.ensures (unreadable c.in-Err.fault c.in-Err.ensures.0)
 
 pub returns-in_default-split_last : goal.returns-in_default-split_last
 returns-in_default-split_last c =

@@ -1,14 +1,13 @@
 -- The lines are played on the board that was prepared.
-use Rattle.std.proofs.Common.{◌≡◌, ℕ, List, [], Ok, Err, Result, sym, ◌∙◌, subst}
+use Rattle.std.proofs.Common.{◌≡◌, ℕ, List, [], Ok, Err, Result, ◌∙◌, subst}
 use Rattle.std.proofs.lemmas.Result.{err_from_is_err_and}
 use Rattle.board.specs.PlainBoard.{PlainBoard, new_board}
 use Rattle.board.specs.Preparing.{Prepared}
 use Rattle.board.specs.View.{view}
 use Rattle.board.specs.declared.fault.BoardFault.{BoardFault}
 use Rattle.fit.specs.Tests.{EitherYes, ExactYes, LinearYes}
-use Rattle.bench_exports.specs.Playing.{Played, ReadiedFromNew}
+use Rattle.bench_exports.specs.Playing.{ReadiedFromNew}
 use Rattle.bench_exports.specs.Playing.Played.{answered, refused, unreadable}
-use Rattle.bench_exports.specs.declared.play.Line.{Line}
 use Rattle.bench_exports.proofs.play.play_sheet.Goals as goal
 
 -- The test is over the list's grid, and the board was new.
@@ -45,7 +44,6 @@ returns c =
     let read = c.in_ok-read.ensures in
     let placed = c.prepare.new.plan in
     let b = view c.prepare.new.board in
-    subst (λ (after : List Line). Played sheet c.args.plan.now c.args.start c.args.lines.now 0 placed after) (sym c.play.ensures)
-    (answered list.grid list.lanes read.0 placed b read.1
+    rw c.play.ensures (answered list.grid list.lanes read.0 placed b read.1
     (from_new list.grid c.either_over.result.first.grid (c.either_over.ensures ∙ c.grid.ensures) sheet c.args.plan.now c.args.start
     (view c.new-board.result) c.new-board.ensures (Ok tt) placed b c.in_ok-prepare.ensures))
