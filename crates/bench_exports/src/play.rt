@@ -11,6 +11,7 @@ use board::prepare::prepare;
 use tasks::list::TaskList;
 
 // A call in numbers, and the places for its answer. `Playing` in specs/ says what they mean.
+// Numbers and no enums: it is a record of C.
 #[derive(Clone, Copy)]
 #[repr(C)]
 pub struct Line {

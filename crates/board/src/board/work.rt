@@ -131,7 +131,7 @@ impl Board {
         Ok(closed)
     }
 
-    // Answers any call.
+    // Answers any call. A match and no closure: a call is data, since a day is a list of calls.
     pub fn answer(&mut self, asked: Call) -> Answer
         ensures value { result ≡ answer_to (view self.old) asked }
         ensures after { view self.new ≡ after_call (view self.old) asked }

@@ -63,7 +63,7 @@ impl Seats {
         usize::from(self.list.lanes())
     }
 
-    // The task of this number.
+    // The task of this number. The bound ties the number to these seats, so no type of numbers can hold it.
     pub(crate) fn task(&self, number: usize) -> TaskRecord
         requires { number < length (tasks_on self.now) }
         ensures { result ≡ record_of (tasks_on self.now) number }
