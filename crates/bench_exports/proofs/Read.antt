@@ -1,5 +1,5 @@
 -- From what is known of the list that was read to what is said of the sheet.
-use Rattle.std.proofs.Common.{◌≡◌, ℕ, ◌-◌, List, length, get_or, take, Result, sym, ap, ◌∙◌, subst}
+use Rattle.std.proofs.Common.{◌≡◌, ℕ, ◌-◌, List, [], ◌∷◌, ◌++◌, ◌+◌, length, get_or, take, Result, sym, ap, ◌∙◌, subst, arith}
 use Rattle.bench_exports.specs.Measured.{AskedExact, PlacedEither, TakesLast, code_of}
 use Rattle.bench_exports.specs.Measured.AskedExact.{no_task, taken, left}
 use Rattle.bench_exports.specs.Measured.PlacedEither.{answered}
@@ -7,23 +7,31 @@ use Rattle.fit.specs.Tests.{EitherYes, ExactYes, LinearYes}
 use Rattle.plan.specs.Placing.{Placed}
 use Rattle.plan.specs.declared.fault.PlanFault.{PlanFault}
 use Rattle.sheet.specs.Spelling.{Entry}
-use Rattle.std.proofs.lemmas.List.{length-map}
+use Rattle.std.proofs.Math.Seq.{take-append_seam}
+use Rattle.std.proofs.lemmas.List.{get_or-append-add, length-append, length-map}
 use Rattle.tasks.specs.Filling.{tasks_of}
 use Rattle.tasks.specs.List.{blank}
 use Rattle.tasks.specs.Reading.{Spells, numbers_said, tasks_said}
 use Rattle.tasks.specs.declared.list.TaskList.{TaskList}
 use Rattle.tasks.specs.declared.record.TaskRecord.{TaskRecord}
 
--- the question that the code asks is the one about the last task
-pub last_asked : (tasks : List TaskRecord) (n : ℕ) (asked : TaskRecord) → n ≡ length tasks - 1 → asked ≡ get_or tasks (length tasks - 1) blank
-    → ExactYes (take n tasks) asked → TakesLast tasks
-last_asked tasks n asked n_is asked_is fits =
-    subst (λ (m : ℕ). ExactYes (take m tasks) (get_or tasks (length tasks - 1) blank)) n_is (subst (λ (t : TaskRecord). ExactYes (take n tasks) t) asked_is fits)
+-- the question about the last of these tasks is the one about this task over the others
+module _ (tasks row : List TaskRecord) (asked : TaskRecord) (split : tasks ≡ row ++ asked ∷ []) where
+  before_last : take (length tasks - 1) tasks ≡ row
+  before_last =
+      let long : length tasks - 1 ≡ length row = omega (arith, ap length split, length-append row (asked ∷ [])) in
+      rw (long, split) (take-append_seam row (asked ∷ []))
 
-pub asked_last : (tasks : List TaskRecord) (n : ℕ) (asked : TaskRecord) → n ≡ length tasks - 1 → asked ≡ get_or tasks (length tasks - 1) blank
-    → TakesLast tasks → ExactYes (take n tasks) asked
-asked_last tasks n asked n_is asked_is fits =
-    subst (λ (t : TaskRecord). ExactYes (take n tasks) t) (sym asked_is) (subst (λ (m : ℕ). ExactYes (take m tasks) (get_or tasks (length tasks - 1) blank)) (sym n_is) fits)
+  last-is : get_or tasks (length tasks - 1) blank ≡ asked
+  last-is =
+      let long : length tasks - 1 ≡ length row + 0 = omega (arith, ap length split, length-append row (asked ∷ [])) in
+      rw (long, split) (get_or-append-add row (asked ∷ []) 0 blank)
+
+  pub last_asked : ExactYes row asked → TakesLast tasks
+  last_asked fits = rw (before_last, last-is) fits
+
+  pub asked_last : TakesLast tasks → ExactYes row asked
+  asked_last fits = rw (before_last, last-is) at fits
 
 module _ (sheet : List ℕ) (list : TaskList) (entries : List Entry) (spells : Spells sheet list.grid list.lanes entries) (tasks_are : tasks_of list ≡ tasks_said entries) where
   pub placed_list : (before : List ℕ) (over : ℕ) → over ≡ list.grid → (r : Result (Unit {0}) PlanFault) (after : List ℕ)

@@ -55,6 +55,11 @@ played b (line ∷ lines) = told line (answer_to b (call_said line)) ∷ played 
 abbrev pub ReadiedFromNew : ℕ → List ℕ → List ℕ → ℕ → Result (Unit {0}) BoardFault → List ℕ → PlainBoard → Type 0
 ReadiedFromNew grid sheet plan start = Prepared (EitherYes (LinearYes grid) ExactYes) sheet plan start (new_board [] 1 [] 0)
 
+-- 0 for a day that was played, and else the fault's number.
+abbrev pub code_of_day : Result (Unit {0}) BoardFault → ℕ
+code_of_day (Ok _) = 0
+code_of_day (Err fault) = board.number fault
+
 -- The sheet spells no list; or it gives a board, and the lines are played on it; or it gives none, and the lines are as they were
 -- (and the plan, as `Prepared` says).
 pub data Played (sheet plan : List ℕ) (start : ℕ) (lines : List Line) : ℕ → List ℕ → List Line → Type 0 where

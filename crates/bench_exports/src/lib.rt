@@ -2,13 +2,14 @@
 #![tactic(auto)]
 
 ghost use Rattle.std.specs.Prelude.{◌≡◌};
-ghost use Rattle.bench_exports.specs.Measured.{AskedExact, PlacedEither};
+ghost use Rattle.bench_exports.specs.Measured.{AskedExact, PlacedEither, code_of};
 ghost use Rattle.tasks.specs.Task.{GridRange};
 
 use fit::either::Either;
 use fit::exact::Exact;
 use fit::linear::Linear;
 use fit::question::FitTest;
+use plan::fault::PlanFault;
 use plan::place::place;
 use tasks::list::TaskList;
 
@@ -34,17 +35,23 @@ pub(crate) fn either_over(grid: u32) -> Either<Linear, Exact>
 pub extern "C" fn bench_place_either(sheet: &[u8], plan: &mut [u8]) -> u32
     ensures { PlacedEither sheet.now plan.old result plan.new }
 {
-    let mut list = TaskList::new();
-    if let Err(fault) = list.read(sheet) {
-        return fault.number();
-    }
-    match place(&list, &either_over(list.grid()), plan) {
+    match place_either(sheet, plan) {
         Ok(()) => 0,
         Err(fault) => fault.number(),
     }
 }
 
+// The same, with the fault whole.
+fn place_either(sheet: &[u8], plan: &mut [u8]) -> Result<(), PlanFault>
+    ensures { PlacedEither sheet.now plan.old (code_of result) plan.new }
+{
+    let mut list = TaskList::new();
+    list.read(sheet)?;
+    place(&list, &either_over(list.grid()), plan)
+}
+
 // Asks the exact test about the last task of a sheet over those before it: 0 for yes, 12 for no, 13 for no task.
+// The numbers are C's: no fault says that a list has no task or that the answer is no, so no inner call gives a Result.
 #[unsafe(no_mangle)]
 pub extern "C" fn bench_ask_exact(sheet: &[u8]) -> u32
     ensures { AskedExact sheet.now result }
@@ -53,12 +60,8 @@ pub extern "C" fn bench_ask_exact(sheet: &[u8]) -> u32
     if let Err(fault) = list.read(sheet) {
         return fault.number();
     }
-    let tasks = list.records();
-    let count = tasks.len();
-    if count < 1 {
+    let Some((asked, row)) = list.records().split_last() else {
         return 13;
-    }
-    let row = &tasks[0..count - 1];
-    let asked = tasks[count - 1];
-    if Exact.fits(row, asked) { 0 } else { 12 }
+    };
+    if Exact.fits(row, *asked) { 0 } else { 12 }
 }

@@ -1,15 +1,17 @@
 // A day on the board, call by call, which only the benchmark plays.
 ghost use Rattle.std.specs.Prelude.{◌≡◌};
-ghost use Rattle.bench_exports.specs.Playing.{Played, answer_code, answer_value, call_said, played};
+ghost use Rattle.bench_exports.specs.Playing.{Played, answer_code, answer_value, call_said, code_of_day, played};
 ghost use Rattle.board.specs.View.{view};
 
 use crate::either_over;
 use board::board::Board;
 use board::call::{Answer, Call};
+use board::fault::BoardFault;
 use board::prepare::prepare;
 use tasks::list::TaskList;
 
 // A call in numbers, and the places for its answer. `Playing` in specs/ says what they mean.
+// Numbers and no enums: it is a record of C.
 #[derive(Clone, Copy)]
 #[repr(C)]
 pub struct Line {
@@ -19,16 +21,16 @@ pub struct Line {
     pub value: u64,
 }
 
-impl Line {
-    // The call that the line says.
-    fn said(self) -> Call
-        ensures { result ≡ call_said self }
-    {
-        let argument = self.argument as usize;
-        match self.call {
+// The call that the line says.
+impl From<Line> for Call {
+    ghost from_gives = { λ line r. r ≡ call_said line };
+
+    fn from(line: Line) -> Call {
+        let argument = line.argument as usize;
+        match line.call {
             0 => Call::Post(argument),
             1 => Call::Begin,
-            2 => Call::End((self.argument % 256) as u8),
+            2 => Call::End((line.argument % 256) as u8),
             3 => Call::Serving(argument),
             4 => Call::Waiting(argument),
             _ => Call::Clock,
@@ -37,6 +39,7 @@ impl Line {
 }
 
 // 0 for an answer, 1 for none, and else the number of the refusal.
+// No From<Answer>: an answer gives two numbers, this one and its value.
 fn code_of(answer: Answer) -> u32
     ensures { result ≡ answer_code answer }
 {
@@ -68,7 +71,7 @@ fn play(board: &mut Board, lines: &mut [Line])
     ensures { lines.new ≡ played (view board.old) lines.old }
 {
     for line in lines.iter_mut() {
-        let answer = board.answer(line.said());
+        let answer = board.answer(Call::from(*line));
         line.code = code_of(answer);
         line.value = value_of(answer);
     }
@@ -79,15 +82,25 @@ fn play(board: &mut Board, lines: &mut [Line])
 pub extern "C" fn bench_play(sheet: &[u8], plan: &mut [u8], start: u64, lines: &mut [Line]) -> u32
     ensures { Played sheet.now plan.old start lines.old result plan.new lines.new }
 {
+    match play_sheet(sheet, plan, start, lines) {
+        Ok(()) => 0,
+        Err(fault) => fault.number(),
+    }
+}
+
+// The same, with the fault whole.
+fn play_sheet(
+    sheet: &[u8],
+    plan: &mut [u8],
+    start: u64,
+    lines: &mut [Line],
+) -> Result<(), BoardFault>
+    ensures { Played sheet.now plan.old start lines.old (code_of_day result) plan.new lines.new }
+{
     let mut list = TaskList::new();
-    if let Err(fault) = list.read(sheet) {
-        return fault.number();
-    }
-    let test = either_over(list.grid());
+    list.read(sheet)?;
     let mut board = Board::new();
-    if let Err(fault) = prepare(&mut board, sheet, plan, start, &test) {
-        return fault.number();
-    }
+    prepare(&mut board, sheet, plan, start, &either_over(list.grid()))?;
     play(&mut board, lines);
-    0
+    Ok(())
 }

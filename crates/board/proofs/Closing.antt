@@ -11,9 +11,10 @@ use Rattle.board.specs.declared.call.Call.{Call}
 use Rattle.board.specs.declared.call.Call.TheVariants.{Post, Begin, End, Serving, Waiting, Clock}
 use Rattle.board.specs.PlainBoard.{PlainBoard, accepted_board, after_end, after_post, after_service, bit, first_waiting, lane_numbers, lane_standings, standing_of, task_place}
 use Rattle.board.specs.Promise.{AlwaysClosedRightly, ClosedRightly, Rightly, Waits, board_at}
-use Rattle.board.proofs.FirstWaiting.{one_on}
+use Rattle.board.proofs.Lanes.{one_on}
 use Rattle.board.proofs.Places.{number-at-place, record_at_place}
-use Rattle.board.proofs.Run.{after_call_ways, counted-at}
+use Rattle.board.proofs.Counted.{counted-at}
+use Rattle.board.proofs.Run.{after_call_ways}
 
 -- No job with the release waits.
 abbrev Gone : List Job → Job → Type 0

@@ -2,7 +2,7 @@
 use Rattle.std.proofs.Common.{◌≡◌, ℕ, zero, suc, ◌+◌, ◌-◌, ◌*◌, ◌<◌, ◌≤◌, Bool, true, false, cond, List, [], ◌∷◌, map, length, sym, ap, ◌∙◌, arith}
 use Rattle.std.proofs.lemmas.List.{length-map}
 use Rattle.board.specs.PlainBoard.{byte_of, count_from}
-use Rattle.board.proofs.View.{length-counted}
+use Rattle.board.proofs.Counted.{length-count}
 
 abbrev doubled : ℕ → ℕ
 doubled zero = 1
@@ -22,10 +22,7 @@ byte_from f lanes lane = byte_of (map f (count_from lane (lanes - lane)))
 pub byte_fits : (f : ℕ → Bool) (lanes lane : ℕ) → lanes ≤ 4 → byte_from f lanes lane < 128
 byte_fits f lanes lane h =
     let bits = map f (count_from lane (lanes - lane)) in
-    let few = byte_below bits 4 (omega (arith, length-map (count_from lane (lanes - lane)) f, length-counted lane (lanes - lane))) in omega arith
-
-pub byte_none : (f : ℕ → Bool) (lanes : ℕ) → byte_from f lanes lanes ≡ 0
-byte_none f lanes = let none : lanes - lanes ≡ 0 = omega arith in ap (λ n. byte_of (map f (count_from lanes n))) none
+    let few = byte_below bits 4 (omega (arith, length-map (count_from lane (lanes - lane)) f, length-count lane (lanes - lane))) in omega arith
 
 pub byte_all : (f : ℕ → Bool) (lanes : ℕ) → byte_from f lanes 0 ≡ byte_of (map f (count_from 0 lanes))
 byte_all f lanes = let all : lanes - 0 ≡ lanes = omega arith in ap (λ n. byte_of (map f (count_from 0 n))) all

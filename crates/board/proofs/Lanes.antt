@@ -1,15 +1,15 @@
 -- The tasks of a lane by their numbers: which is served, what one slot leaves, and what a change of one task changes.
-use Rattle.std.proofs.Common.{◌≡◌, ℕ, zero, suc, ◌+◌, ◌<◌, Bool, true, false, cond, ◌&&◌, eqb, ◌≢◌, ◌⊎◌, List, [], ◌∷◌, map, length, get_or, drop, set, is_some, Some, None, filter, Option, sym, refl, ap, ◌∙◌, subst, inl, inr, ⊎_elim, arith}
-use Rattle.std.specs.List.{AllByRecursion}
+use Rattle.std.proofs.Common.{◌≡◌, ℕ, zero, suc, ◌<◌, Bool, true, false, cond, ◌&&◌, eqb, ◌≢◌, ◌⊎◌, List, [], ◌∷◌, map, length, get_or, set, is_some, Some, None, filter, Option, sym, refl, ap, ◌∙◌, subst, inl, inr, ⊎_elim, arith}
+use Rattle.std.specs.List.{AllByRecursion, find}
 use Rattle.std.proofs.ByRecursion.{All-from_get_or, all_kept_by}
-use Rattle.std.proofs.lemmas.List.{at_drop_more, get_or-set_other, get_or-set_same}
-use Rattle.std.proofs.lemmas.Bool.{and_from, and_left, and_right, both_ways, cond_both, cond-false, cond-true, eq-eqb, eqb-false, eqb-true, ne_eqb}
+use Rattle.std.proofs.lemmas.List.{get_or-set_other, get_or-set_same}
+use Rattle.std.proofs.lemmas.Bool.{both_ways, cond_both, eqb-false, eqb-true}
 use Rattle.fit.specs.Lane.{Job, Standing, after_service, serve, unreleased}
 use Rattle.plan.specs.Placing.{lane_of, record_of}
 use Rattle.tasks.specs.declared.record.TaskRecord.{TaskRecord}
 use Rattle.board.specs.PlainBoard.{first_closes, first_waiting, place_among}
 use Rattle.board.specs.Queues.{after_slot_of, has_job, stands_at}
-use Rattle.board.specs.Steps.{next_on, served_by}
+use Rattle.board.specs.Steps.{closed_by, next_on, served_by}
 
 -- A number among others, and numbers that are all different.
 abbrev pub In : ℕ → List ℕ → Type 0
@@ -56,23 +56,32 @@ in_place x (y ∷ ys) h =
     let more = in_place x ys (⊎_elim (λ same. absurd (eqb-false y x e same)) (λ m. m) h) in
     (omega (arith, more.0), more.1))
 
+-- A place among the later tasks.
+abbrev pub one_on : Option ℕ → Option ℕ
+one_on None = None
+one_on (Some place) = Some (suc place)
+
+-- Whether the job of the task at this place of a lane closes, and whether that of the task which the lane serves does.
+abbrev pub closes_at : Bool → List TaskRecord → List Standing → Option ℕ → Bool
+closes_at said row ss None = false
+closes_at said row ss (Some place) = first_closes (get_or row place (record_of [] 0)) said (get_or ss place unreleased).waiting
+
+abbrev pub closing : Bool → List TaskRecord → List Standing → Bool
+closing said row ss = closes_at said row ss (first_waiting ss)
+
 module _ (ss : List Standing) where
   -- The first of these numbers whose task has a waiting job.
   abbrev pub first-number : List ℕ → Option ℕ
-  first-number [] = None
-  first-number (n ∷ ns) = cond (has_job (stands_at ss n)) (Some n) (first-number ns)
-
-  abbrev further : Option ℕ → Option ℕ
-  further o = elim o [ None ↦ None | Some place ↦ Some (suc place) ]
+  first-number = find (λ n. has_job (stands_at ss n))
 
   abbrev first_of : List Job → Option ℕ → Option ℕ
-  first_of waiting o = elim waiting [ [] ↦ further o | job ∷ jobs ↦ Some 0 ]
+  first_of waiting o = elim waiting [ [] ↦ one_on o | job ∷ jobs ↦ Some 0 ]
 
   -- What is read off the place of the first that waits is read off its number.
   module _ {X : Type 0} (read : List ℕ → Option ℕ → X) (shift_none : (n : ℕ) (ns : List ℕ) → read (n ∷ ns) None ≡ read ns None)
       (shift_some : (n : ℕ) (ns : List ℕ) (place : ℕ) → read (n ∷ ns) (Some (suc place)) ≡ read ns (Some place))
       (pick : Option ℕ → X) (none : read [] None ≡ pick None) (here : (n : ℕ) (ns : List ℕ) → read (n ∷ ns) (Some 0) ≡ pick (Some n)) where
-    shift : (n : ℕ) (ns : List ℕ) (o : Option ℕ) → read (n ∷ ns) (further o) ≡ read ns o
+    shift : (n : ℕ) (ns : List ℕ) (o : Option ℕ) → read (n ∷ ns) (one_on o) ≡ read ns o
     shift n ns None = shift_none n ns
     shift n ns (Some place) = shift_some n ns place
 
@@ -177,33 +186,8 @@ module _ (ss : List Standing) where
               ∙ ap (λ xs. stands_at (after (first-number ns)) n ∷ xs) (serve-first ns d.1 a.1)
         ]
 
-    abbrev closing : Option ℕ → Bool
-    closing o = elim o [ None ↦ false | Some n ↦ first_closes (record_of tasks n) said (stands_at ss n).waiting ]
-
     pub closes-first :
-        (ns : List ℕ)
-        → elim (first_waiting (map (stands_at ss) ns)) [ None ↦ false | Some place ↦ first_closes (get_or (map (record_of tasks) ns) place (record_of [] 0)) said (get_or (map (stands_at ss) ns) place unreleased).waiting ]
-        ≡ closing (first-number ns)
+        (ns : List ℕ) → closing said (map (record_of tasks) ns) (map (stands_at ss) ns) ≡ closed_by tasks said ss (first-number ns)
     closes-first =
-        read_first (λ ns o. elim o [ None ↦ false | Some place ↦ first_closes (get_or (map (record_of tasks) ns) place (record_of [] 0)) said (get_or (map (stands_at ss) ns) place unreleased).waiting ])
-        (λ n ns. refl) (λ n ns place. refl) closing refl (λ n ns. refl)
-
--- Going through the tasks in order, up to the one that is served.
-module _ (plan : List ℕ) (lane : ℕ) (ss : List Standing) (ns : List ℕ) (k : ℕ) (h : k < length ns) (number : ℕ) (is : number ≡ get_or ns k 0) where
-  abbrev rest : Option ℕ
-  rest = next_on plan lane ss (drop (k + 1) ns)
-
-  here_or_on : next_on plan lane ss (drop k ns) ≡ cond (eqb (lane_of plan number) lane && has_job (stands_at ss number)) (Some number) rest
-  here_or_on =
-      at_drop_more (next_on plan lane ss) ns k 0 h
-      ∙ ap (λ (n : ℕ). cond (eqb (lane_of plan n) lane && has_job (stands_at ss n)) (Some n) rest) (sym is)
-
-  pub found_here : lane_of plan number ≡ lane → has_job (stands_at ss number) ≡ true → next_on plan lane ss (drop k ns) ≡ Some number
-  found_here l j = here_or_on ∙ cond-true _ (Some number) rest (and_from _ _ (eq-eqb (lane_of plan number) lane l) j)
-
-  pub not-here : (lane_of plan number ≡ lane → ⊥) ⊎ (has_job (stands_at ss number) ≡ false) → next_on plan lane ss (drop k ns) ≡ rest
-  not-here other =
-      here_or_on
-      ∙ cond-false _ (Some number) rest (⊎_elim
-      (λ (n : lane_of plan number ≡ lane → ⊥). and_left (eqb (lane_of plan number) lane) _ (ne_eqb (lane_of plan number) lane n))
-      (λ (j : has_job (stands_at ss number) ≡ false). and_right (eqb (lane_of plan number) lane) _ j) other)
+        read_first (λ ns o. closes_at said (map (record_of tasks) ns) (map (stands_at ss) ns) o)
+        (λ n ns. refl) (λ n ns place. refl) (closed_by tasks said ss) refl (λ n ns. refl)

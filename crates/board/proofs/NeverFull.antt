@@ -15,7 +15,6 @@ use Rattle.board.specs.declared.fault.BoardFault.{BoardFault}
 use Rattle.board.specs.declared.fault.BoardFault.TheVariants.{Plan, NoLane, NoTask, Early, QueueFull, SlotOpen, SlotShut, NotServed, ClockEnd}
 use Rattle.board.specs.PlainBoard.{PlainBoard, accepted_answer, after_call, answer_to, answers_to, busy, bit, clock_end, count_from, fault_if, first_fault, most_waiting, new_board, next_release, not_served, refusal, standing_of, task_place}
 use Rattle.board.specs.Promise.{NeverFull}
-use Rattle.board.proofs.Calls.{answer_by}
 use Rattle.board.proofs.Places.{record_at_place}
 use Rattle.board.proofs.Run.{Run, WorksFit, kept_after_calls, may_release, run-after_call, run_from_new}
 
@@ -135,7 +134,7 @@ module _ (lanes : ℕ) (b : PlainBoard) (run : Run lanes b) (safe : LanesAreSafe
 
   answer_not_full : (call : Call) → IfRefused (answer_to b call)
   answer_not_full call =
-      elim (refusal b call) as (λ r. IfAny r → IfRefused (answer_by b call r)) [
+      elim (refusal b call) as (λ r. IfAny r → IfRefused (elim r [ None ↦ accepted_answer b call | Some fault ↦ Refused fault ])) [
         | None ↦ λ _. accepted_not_full b call
         | Some fault ↦ λ h. h
       ] (refusal_not_full call)

@@ -1,17 +1,18 @@
 -- The task that a lane serves next: which one it can be, and what a change of one task leaves of it.
-use Rattle.std.proofs.Common.{◌≡◌, ℕ, ◌<◌, ◌≤◌, Bool, true, false, cond, ◌&&◌, eqb, ◌≢◌, List, [], ◌∷◌, length, get_or, set, replicate, IfSome, Some, None, Option, sym, refl, ap, ◌∙◌, subst, ⊎_elim, arith}
+use Rattle.std.proofs.Common.{◌≡◌, ℕ, ◌<◌, ◌≤◌, Bool, true, false, cond, ◌&&◌, eqb, ◌≢◌, List, [], ◌∷◌, map, length, get_or, set, replicate, IfSome, Some, None, Option, sym, refl, ap, ◌∙◌, subst, ⊎_elim, arith}
 use Rattle.std.specs.List.{AllByRecursion}
-use Rattle.std.proofs.ByRecursion.{All-from_get_or}
-use Rattle.std.proofs.lemmas.List.{get_or-replicate, get_or-set_other, get_or-set_same, get_or-take}
-use Rattle.std.proofs.lemmas.Bool.{and_left, and_parts, and_right, cases_eq, cond_both, cond-false, eq-eqb, eqb-true, false≢true, ne_eqb}
+use Rattle.std.proofs.ByRecursion.{All-from_get_or, All-get_or}
+use Rattle.std.proofs.lemmas.List.{get_or_past, get_or-replicate, get_or-set_other, get_or-set_same, get_or-take}
+use Rattle.std.proofs.lemmas.Bool.{and_left, and_parts, and_right, cases_eq, cases_lt, cond_both, cond-false, eq-eqb, eqb-true, ne_eqb}
 use Rattle.fit.specs.Lane.{Job, Standing, served_once, unreleased}
 use Rattle.plan.specs.Placing.{lane_of, order, record_of}
 use Rattle.plan.proofs.Order.{length-order, turn-within}
 use Rattle.tasks.specs.declared.record.TaskRecord.{TaskRecord}
 use Rattle.board.specs.PlainBoard.{first_closes}
-use Rattle.board.specs.Queues.{after_slot_of, has_job, stands_at}
+use Rattle.board.specs.Queues.{after_slot_of, has_job, standing, stands_at}
 use Rattle.board.specs.Seating.{plan_of, tasks_on}
-use Rattle.board.specs.Steps.{AreNext, SlotGiven, next_on, next_task, same_number, served_by}
+use Rattle.board.specs.Steps.{AreNext, KnowsNext, closed_by, SlotGiven, next_on, next_task, same_number, served_by}
+use Rattle.board.specs.declared.jobs.Jobs.{Jobs}
 use Rattle.board.specs.declared.seats.Seats.{Seats}
 use Rattle.board.proofs.View.{fresh-stands}
 
@@ -23,8 +24,8 @@ on_lane seats task inside =
 
 is_same : (a b : Option ℕ) → same_number a b ≡ true → a ≡ b
 is_same None None e = refl
-is_same None (Some n) e = absurd (false≢true e)
-is_same (Some m) None e = absurd (false≢true e)
+is_same None (Some n) e = cc
+is_same (Some m) None e = cc
 is_same (Some m) (Some n) e = ap Some (eqb-true m n e)
 
 same_itself : (a : Option ℕ) → same_number a a ≡ true
@@ -98,6 +99,11 @@ module _ (plan : List ℕ) (lane : ℕ) where
 each_turn_inside : (tasks : List TaskRecord) → AllByRecursion (λ m. m < length tasks) (order tasks)
 each_turn_inside tasks = All-from_get_or (λ m. m < length tasks) (order tasks) 0 (λ i l. turn-within tasks i (omega (arith, length-order tasks)))
 
+pub turn_inside : (tasks : List TaskRecord) (ns : List ℕ) (k n : ℕ) → ns ≡ order tasks → k < length ns → n ≡ get_or ns k n → n < length tasks
+turn_inside tasks ns k n is h e =
+    subst (λ (x : ℕ). x < length tasks) (sym (e ∙ ap (λ (xs : List ℕ). get_or xs k n) is))
+    (All-get_or (λ m. m < length tasks) (order tasks) k n (omega (arith, ap length is)) (each_turn_inside tasks))
+
 first_part : (P Q : ℕ → Type 0) (o : Option ℕ) → IfSome o (λ n. P n × Q n) → IfSome o P
 first_part P Q None h = tt
 first_part P Q (Some n) h = h.0
@@ -127,7 +133,7 @@ none_past seats lane past ss =
     absurd (omega (arith, on, e, past, seats.list.lane_range.1))))
 
 module _ (tasks : List TaskRecord) (plan : List ℕ) (ss : List Standing) (next : List (Option ℕ)) (are : AreNext tasks plan ss next) where
-  pub next-is : (lane : ℕ) → lane < 4 → get_or next lane None ≡ next_task tasks plan ss lane
+  next-is : (lane : ℕ) → lane < 4 → get_or next lane None ≡ next_task tasks plan ss lane
   next-is lane h = is_same (get_or next lane None) (next_task tasks plan ss lane) (are lane h)
 
   module _ (n : ℕ) (s : Standing) (ss' : List Standing) (is : ss' ≡ set ss n s) where
@@ -155,11 +161,10 @@ module _ (tasks : List TaskRecord) (plan : List ℕ) (ss : List Standing) (next 
 
   -- The task that the lane serves was given a slot.
   pub given_to :
-      (lane : ℕ) → lane < 4 → (n : ℕ) → Some n ≡ get_or next lane None → (t : TaskRecord) → t ≡ record_of tasks n
+      (lane n : ℕ) → Some n ≡ next_task tasks plan ss lane → (t : TaskRecord) → t ≡ record_of tasks n
       → (said closed : Bool) (ss' : List Standing) → closed ≡ first_closes t said (stands_at ss n).waiting
       → ss' ≡ set ss n (after_slot_of t said (stands_at ss n)) → SlotGiven tasks plan ss lane said closed ss'
-  given_to lane h n e t is said closed ss' closes stands =
-      let serves_it : Some n ≡ next_task tasks plan ss lane = e ∙ next-is lane h in
+  given_to lane n serves_it t is said closed ss' closes stands =
       record {
         stands =
             stands
@@ -167,8 +172,27 @@ module _ (tasks : List TaskRecord) (plan : List ℕ) (ss : List Standing) (next 
         closes =
             closes
             ∙ (ap (λ (x : TaskRecord). first_closes x said (stands_at ss n).waiting) is
-            ∙ ap (λ (o : Option ℕ). elim o [ None ↦ false | Some m ↦ first_closes (record_of tasks m) said (stands_at ss m).waiting ]) serves_it);
+            ∙ ap (closed_by tasks said ss) serves_it);
       }
+
+-- Where the lane serves no task, none was given a slot.
+pub given_none :
+    (tasks : List TaskRecord) (plan : List ℕ) (ss : List Standing) (lane : ℕ) → None ≡ next_task tasks plan ss lane → (said : Bool)
+    → SlotGiven tasks plan ss lane said false ss
+given_none tasks plan ss lane none said =
+    record {
+      stands = ap (served_by tasks said ss) none;
+      closes = ap (closed_by tasks said ss) none;
+    }
+
+-- Whichever the lane: past the fourth no number is at hand, and no task is served.
+pub known-next :
+    (seats : Seats) (jobs : Jobs) → KnowsNext seats jobs → (lane : ℕ)
+    → get_or jobs.next lane None ≡ next_task (tasks_on seats) (plan_of seats) (map standing jobs.queues) lane
+known-next seats jobs knows lane =
+    ⊎_elim (λ (h : lane < 4). next-is (tasks_on seats) (plan_of seats) (map standing jobs.queues) jobs.next knows lane h)
+    (λ (h : 4 ≤ lane). get_or_past jobs.next lane None (omega (arith, jobs.four)) ∙ sym (none_past seats lane h (map standing jobs.queues)))
+    (cases_lt lane 4)
 
 still_waiting :
     (t : TaskRecord) (said : Bool) (last : Option ℕ) (jobs : List Job) → first_closes t said jobs ≡ false

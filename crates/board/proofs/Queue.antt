@@ -1,8 +1,8 @@
 -- The jobs of a task's queue, in order, after a put and after a take.
-use Rattle.std.proofs.Common.{◌≡◌, ℕ, suc, ◌+◌, ◌<◌, ◌≤◌, Bool, true, false, cond, ◌||◌, ltb, leb, List, [], ◌∷◌, ◌++◌, map, length, get_or, drop, is_some, Some, None, count_by, Option, unwrap_or, sym, refl, ap, ◌∙◌, subst, zero-add, one-add, arith}
-use Rattle.std.specs.List.{AllByRecursion}
+use Rattle.std.proofs.Common.{◌≡◌, ℕ, suc, ◌+◌, ◌<◌, ◌≤◌, Bool, true, false, cond, ◌||◌, ltb, leb, List, [], ◌∷◌, ◌++◌, map, length, is_some, Some, None, count_by, Option, unwrap_or, sym, refl, ap, ◌∙◌, subst, arith}
+use Rattle.std.specs.List.{AllByRecursion, list_any}
 use Rattle.std.proofs.ByRecursion.{All-weaker}
-use Rattle.std.proofs.lemmas.List.{at_drop_more, length-map, length-set, map_push}
+use Rattle.std.proofs.lemmas.List.{length-map, length-set, map_push}
 use Rattle.std.proofs.lemmas.List.Sums.{sum_by_push}
 use Rattle.std.proofs.lemmas.Bool.Decides.{nat_tests}
 use Rattle.queue.specs.InOrder.{NoTies, Sorted, in_order}
@@ -44,7 +44,7 @@ length_releases places = length-in_order released_before (held places) ∙ sym (
 
 -- What is not later than the last release is not later than any clock from there on.
 not_later : (last : Option ℕ) (clock : ℕ) → unwrap_or last 0 ≤ clock → (r : Release) → later_than last r ≡ false → ltb clock r.at ≡ false
-not_later None clock h r e = let z : ◌≡◌ {A = ℕ} 0 1 = cc in absurd (omega arith)
+not_later None clock h r e = cc
 not_later (Some last) clock h r e = grind (arith, nat_tests)
 
 module _ (last : Option ℕ) (clock : ℕ) (past : unwrap_or last 0 ≤ clock) (old : List (Option Release)) (none : count (later_than last) old ≡ 0) where
@@ -104,15 +104,20 @@ pub jobs_none : (rs : List Release) → jobs_of 0 rs ≡ map unserved rs
 jobs_none [] = refl
 jobs_none (r ∷ rs) = refl
 
-one_place : (p : Option Release) (ps : List (Option Release)) → length (held (p ∷ ps)) ≡ cond (is_some p) 1 0 + length (held ps)
-one_place None ps = sym (zero-add (length (held ps)))
-one_place (Some x) ps = sym (one-add (length (held ps)))
+-- How many places are taken, and whether one is.
+pub count_by-taken : (places : List (Option Release)) → count_by is_some places ≡ length (held places)
+count_by-taken [] = refl
+count_by-taken (None ∷ places) = omega (arith, count_by-cons (is_some {T = Release}) None places, count_by-taken places)
+count_by-taken (Some x ∷ places) = omega (arith, count_by-cons (is_some {T = Release}) (Some x) places, count_by-taken places)
 
--- How many places are taken, counted from the front.
-pub held_more :
-    (places : List (Option Release)) (i : ℕ) → i < length places
-    → length (held (drop i places)) ≡ cond (is_some (get_or places i None)) 1 0 + length (held (drop (i + 1) places))
-held_more places i h = at_drop_more (λ ps. length (held ps)) places i None h ∙ one_place (get_or places i None) (drop (i + 1) places)
+pub list_any-taken :
+    (places : List (Option Release)) (jobs : List Job) → length jobs ≡ length (held places)
+    → list_any is_some places ≡ elim jobs [ [] ↦ false | job ∷ more ↦ true ]
+list_any-taken [] [] e = refl
+list_any-taken [] (job ∷ jobs) e = absurd (omega arith)
+list_any-taken (None ∷ places) jobs e = list_any-taken places jobs e
+list_any-taken (Some x ∷ places) [] e = absurd (omega arith)
+list_any-taken (Some x ∷ places) (job ∷ jobs) e = refl
 
 -- How a task stands, from the parts of its queue.
 abbrev pub stand : Option ℕ → List Release → ℕ → Standing
@@ -124,22 +129,14 @@ length-standing last places served = length_jobs served (releases places) ∙ le
 pub releases_empty : (places : List (Option Release)) → Empty places → releases places ≡ []
 releases_empty places e = holding_empty places (releases places) (λ test. sym (releases_counted test places)) e
 
--- Whether a job waits, from how many do.
-pub some-waits : (jobs : List Job) → 0 < length jobs → true ≡ elim jobs [ [] ↦ false | job ∷ more ↦ true ]
-some-waits [] h = absurd (omega arith)
-some-waits (job ∷ jobs) h = refl
-
-pub none-waits : (jobs : List Job) → length jobs ≡ 0 → false ≡ elim jobs [ [] ↦ false | job ∷ more ↦ true ]
-none-waits [] h = refl
-none-waits (job ∷ jobs) h = absurd (omega arith)
-
+-- How many jobs wait, from whether one does.
 pub waits-some : (jobs : List Job) → true ≡ elim jobs [ [] ↦ false | job ∷ more ↦ true ] → 0 < length jobs
-waits-some [] e = let z : ◌≡◌ {A = ℕ} 0 1 = cc in absurd (omega arith)
+waits-some [] e = absurd cc
 waits-some (job ∷ jobs) e = omega arith
 
 pub waits-none : (jobs : List Job) → false ≡ elim jobs [ [] ↦ false | job ∷ more ↦ true ] → length jobs ≡ 0
 waits-none [] e = refl
-waits-none (job ∷ jobs) e = let z : ◌≡◌ {A = ℕ} 0 1 = cc in absurd (omega arith)
+waits-none (job ∷ jobs) e = absurd cc
 
 module _ (t : TaskRecord) (said : Bool) (last : Option ℕ) (served : ℕ) where
   abbrev Serves : Bool → List Release → ℕ → List Release → Type 0

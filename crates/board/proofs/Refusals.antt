@@ -1,19 +1,21 @@
 -- The plain board's refusals and answers, read off a board's arrays.
-use Rattle.std.proofs.Common.{◌≡◌, ℕ, ◌+◌, ◌<◌, ◌≤◌, Bool, true, false, ltb, leb, List, [], ◌∷◌, map, length, drop, set, Some, None, Option, sym, ap, ◌∙◌, arith}
-use Rattle.std.proofs.lemmas.List.{at_drop_all, at_drop_more, length-map}
+use Rattle.std.proofs.Common.{◌≡◌, ℕ, ◌<◌, ◌≤◌, Bool, true, false, cond, not, ◌&&◌, ltb, leb, List, [], ◌∷◌, map, length, set, Some, None, Option, sym, refl, ap, ◌∙◌, arith}
+use Rattle.std.specs.List.{find}
+use Rattle.std.proofs.lemmas.List.{length-map}
 use Rattle.std.proofs.lemmas.Bool.{le-leb, le-ltb, lt-leb, lt-ltb}
 use Rattle.fit.specs.Lane.{Standing}
 use Rattle.plan.specs.Placing.{record_of}
 use Rattle.plan.proofs.Awaiting.{length-tasks}
-use Rattle.board.specs.PlainBoard.{count_from, fault_if, first_fault, most_waiting, next_release, post_fault, standing_of, with_standing}
+use Rattle.board.specs.PlainBoard.{PlainBoard, bit, busy, fault_if, first_fault, most_waiting, next_release, not_served, post_fault, standing_of, with_standing}
 use Rattle.board.specs.Queues.{standing, stands_at}
 use Rattle.board.specs.Seating.{plan_of, tasks_on}
 use Rattle.board.specs.View.{board_of, lane_of_standings, standings_on, view}
 use Rattle.board.specs.declared.board.Board.{Board}
 use Rattle.board.specs.declared.fault.BoardFault.{BoardFault}
-use Rattle.board.specs.declared.fault.BoardFault.TheVariants.{Early, NoTask, QueueFull, SlotOpen}
+use Rattle.board.specs.declared.fault.BoardFault.TheVariants.{Early, NoTask, NotServed, QueueFull, SlotOpen}
 use Rattle.board.proofs.Next.{on_lane}
-use Rattle.board.proofs.View.{length-map-counted, map-counted, stands-is, with_standing-is}
+use Rattle.board.proofs.Counted.{length-counted}
+use Rattle.board.proofs.View.{stands-is, with_standing-is}
 
 -- A fault that does not apply is passed over; the first that applies is given.
 module _ {applies : Bool} (fault : BoardFault) (faults : List (Option BoardFault)) where
@@ -31,7 +33,7 @@ module _ (b : Board) where
   length-standings = length-map b.jobs.queues standing ∙ b.jobs.long
 
   pub length-lanes : length (view b).lanes ≡ b.seats.list.lanes
-  length-lanes = length-map-counted (lane_of_standings (tasks_on b.seats) (plan_of b.seats) (standings_on b)) b.seats.list.lanes
+  length-lanes = length-counted (lane_of_standings (tasks_on b.seats) (plan_of b.seats) (standings_on b)) b.seats.list.lanes
 
   module _ (task : ℕ) (inside : task < length (tasks_on b.seats)) where
     pub view-stands : standing_of (view b) task ≡ stands_at (standings_on b) task
@@ -81,21 +83,17 @@ module _ (b : Board) where
       pub post_open : next ≤ b.clock → length now_stands.waiting < 4 → post_fault (view b) task ≡ None
       post_open h w = reached-count h ∙ passed (QueueFull task) [] (lt-leb 4 (length now_stands.waiting) w)
 
--- The first fault of as many as there are numbers below n, looked for one after the other.
-module _ (F : ℕ → Option BoardFault) (n : ℕ) where
-  abbrev all_faults : List (Option BoardFault)
-  all_faults = map F (count_from 0 n)
+abbrev pub fault_at : Option ℕ → Option BoardFault
+fault_at found = elim found [ None ↦ None | Some k ↦ Some (NotServed k) ]
 
-  fault_or_on : (k : ℕ) → k < n → (o : Option BoardFault) → F k ≡ o → first_fault (drop k all_faults) ≡ first_fault (o ∷ drop (k + 1) all_faults)
-  fault_or_on k h o e =
-      at_drop_more first_fault all_faults k None (omega (arith, length-map-counted F n))
-      ∙ ap (λ (x : Option BoardFault). first_fault (x ∷ drop (k + 1) all_faults)) (map-counted F n k None h ∙ e)
-
-  pub fault_here : (k : ℕ) → k < n → (fault : BoardFault) → F k ≡ Some fault → first_fault (drop k all_faults) ≡ Some fault
-  fault_here k h fault e = fault_or_on k h (Some fault) e
-
-  pub no_fault_here : (k : ℕ) → k < n → F k ≡ None → first_fault (drop k all_faults) ≡ first_fault (drop (k + 1) all_faults)
-  no_fault_here k h e = fault_or_on k h None e
-
-  pub no_fault_left : (k : ℕ) → n ≤ k → first_fault (drop k all_faults) ≡ None
-  no_fault_left k h = at_drop_all first_fault all_faults k (omega (arith, length-map-counted F n))
+-- The first of these lanes whose bit is set though it has no job gives the fault.
+pub first_not_served :
+    (b : PlainBoard) (finished : ℕ) (lanes : List ℕ)
+    → first_fault (map (not_served b finished) lanes)
+    ≡ fault_at (find (λ k. bit finished k && not (busy b k)) lanes)
+first_not_served b finished [] = refl
+first_not_served b finished (k ∷ lanes) =
+    elim (bit finished k && not (busy b k)) as (λ t. first_fault (fault_if t (NotServed k) ∷ map (not_served b finished) lanes) ≡ fault_at (cond t (Some k) (find (λ k. bit finished k && not (busy b k)) lanes))) [
+      | true ↦ refl
+      | false ↦ first_not_served b finished lanes
+    ]

@@ -1,6 +1,6 @@
 -- What holds of every board that calls reach: each lane is a run of its row between two slots, and the jobs posted since.
-use Rattle.std.proofs.Common.{◌≡◌, ℕ, zero, suc, ◌+◌, ◌<◌, ◌≤◌, Bool, true, false, ltb, leb, List, [], ◌∷◌, map, length, get_or, take, set, Some, None, Option, sym, refl, ap, ◌∙◌, subst, ⊎_elim, zero-add, arith}
-use Rattle.std.proofs.lemmas.List.{get_or-set_other, get_or-set_same, length-map, length-set}
+use Rattle.std.proofs.Common.{◌≡◌, ℕ, zero, suc, ◌+◌, ◌<◌, ◌≤◌, Bool, true, false, ltb, leb, List, [], ◌∷◌, length, get_or, take, set, Some, None, Option, sym, refl, ap, ◌∙◌, subst, ⊎_elim, arith}
+use Rattle.std.proofs.lemmas.List.{get_or-set_other, get_or-set_same, length-set}
 use Rattle.std.proofs.lemmas.Bool.{cases_eq, leb-false, ltb-false}
 use Rattle.tasks.specs.Task.{WorkFits}
 use Rattle.tasks.specs.declared.record.TaskRecord.{TaskRecord}
@@ -11,8 +11,9 @@ use Rattle.board.specs.declared.call.Call.{Call}
 use Rattle.board.specs.declared.call.Call.TheVariants.{Post, Begin, End, Serving, Waiting, Clock}
 use Rattle.board.specs.declared.fault.BoardFault.{BoardFault}
 use Rattle.board.specs.declared.fault.BoardFault.TheVariants.{NoTask, Early, QueueFull, SlotOpen}
-use Rattle.board.specs.PlainBoard.{PlainBoard, accepted_board, after_begin, after_call, after_calls, after_end, after_post, after_service, bit, count_from, fault_if, first_fault, lane_standings, most_waiting, new_board, next_release, post_fault, refusal, standing_of, task_place}
+use Rattle.board.specs.PlainBoard.{PlainBoard, accepted_board, after_begin, after_call, after_calls, after_end, after_post, after_service, bit, fault_if, first_fault, lane_standings, most_waiting, new_board, next_release, post_fault, refusal, standing_of, task_place}
 use Rattle.board.specs.Promise.{AlwaysRuns, LaneRun}
+use Rattle.board.proofs.Counted.{counted-at, length-counted}
 use Rattle.board.proofs.Places.{place_in_row, record_at_place}
 
 -- Every task of a list has some work, which fits into its limit and into its gap.
@@ -35,9 +36,6 @@ after_call_ways P b call accepted refused =
 pub after-accepted : (b : PlainBoard) (call : Call) → refusal b call ≡ None → after_call b call ≡ accepted_board b call
 after-accepted b call none = ap (left_by b call) none
 
-pub after-refused : (b : PlainBoard) (call : Call) (fault : BoardFault) → refusal b call ≡ Some fault → after_call b call ≡ b
-after-refused b call fault some = ap (left_by b call) some
-
 -- No call changes the tasks and the plan: what is so of them stays so.
 module _ (P : List TaskRecord → List ℕ → Type 0) where
   kept_when_accepted : (b : PlainBoard) (call : Call) → P b.tasks b.plan → P (accepted_board b call).tasks (accepted_board b call).plan
@@ -55,21 +53,10 @@ module _ (P : List TaskRecord → List ℕ → Type 0) where
       kept_after_calls (after_call b call) calls
       (after_call_ways (λ (after : PlainBoard). P after.tasks after.plan) b call (λ _. kept_when_accepted b call h) h)
 
-abbrev HasNone : Option BoardFault → Type 0
-HasNone None = Unit {0}
-HasNone (Some fault) = ⊥
-
--- Where no fault is the first, none is.
-pub first-none :
-    (o : Option BoardFault) (faults : List (Option BoardFault)) → first_fault (o ∷ faults) ≡ None
-    → (o ≡ None) × (first_fault faults ≡ None)
-first-none None faults e = (refl, e)
-first-none (Some fault) faults e = absurd (subst HasNone (sym e) tt)
-
 pub no_fault :
     (applies : Bool) (fault : BoardFault) (faults : List (Option BoardFault))
     → first_fault (fault_if applies fault ∷ faults) ≡ None → (applies ≡ false) × (first_fault faults ≡ None)
-no_fault true fault faults e = absurd (subst HasNone (sym e) tt)
+no_fault true fault faults e = cc
 no_fault false fault faults e = (refl, e)
 
 -- What an accepted post says of its task.
@@ -125,23 +112,6 @@ pub record Run (lanes : ℕ) (b : PlainBoard) : Type 0 where
   pub on_lanes : (task : ℕ) → task < length b.tasks → lane_of b.plan task < lanes
   pub many : length b.lanes ≡ lanes
   pub each : (lane : ℕ) → lane < lanes → LaneRun (lane_row b.tasks b.plan lane) b.clock (lane_standings b lane)
-
-get_or-counted :
-    {X : Type 0} (f : ℕ → X) (from n k : ℕ) (d : X) → k < n → get_or (map f (count_from from n)) k d ≡ f (from + k)
-get_or-counted f from zero k d h = absurd (omega arith)
-get_or-counted f from (suc n) zero d h = ap f (omega arith)
-get_or-counted f from (suc n) (suc k) d h = get_or-counted f (suc from) n k d (omega arith) ∙ ap f (omega arith)
-
--- What stands at a place of a list that is counted out.
-pub counted-at : {X : Type 0} (f : ℕ → X) (n k : ℕ) (d : X) → k < n → get_or (map f (count_from 0 n)) k d ≡ f k
-counted-at f n k d h = get_or-counted f 0 n k d h ∙ ap f (zero-add k)
-
-length-count : (from n : ℕ) → length (count_from from n) ≡ n
-length-count from zero = refl
-length-count from (suc n) = ap suc (length-count (suc from) n)
-
-pub length-counted : {X : Type 0} (f : ℕ → X) (n : ℕ) → length (map f (count_from 0 n)) ≡ n
-length-counted f n = length-map (count_from 0 n) f ∙ length-count 0 n
 
 module _ (lanes : ℕ) (b : PlainBoard) (run : Run lanes b) where
   -- The lane of a task takes one more release of it.

@@ -1,25 +1,26 @@
 -- One slot of service, lane by lane from the last one down.
-use Rattle.std.proofs.Common.{◌≡◌, ℕ, ◌+◌, ◌-◌, ◌*◌, ◌<◌, ◌≤◌, Bool, true, false, cond, eqb, ◌≢◌, List, [], map, length, get_or, Some, None, Option, sym, refl, ap, ◌∙◌, subst, ⊎_elim, arith}
+use Rattle.std.proofs.Common.{◌≡◌, ℕ, ◌+◌, ◌-◌, ◌*◌, ◌<◌, ◌≤◌, Bool, true, false, cond, eqb, ◌≢◌, List, [], map, length, Option, sym, refl, ap, ◌∙◌, subst, ⊎_elim, arith}
 use Rattle.std.specs.List.{AllByRecursion}
 use Rattle.std.proofs.ByRecursion.{All-from_get_or, all_kept_by, All-weaker, kept_by_passes}
 use Rattle.std.proofs.lemmas.List.{ext_get_or}
 use Rattle.std.proofs.lemmas.Bool.{cases_eq, cases_lt, eqb-true}
-use Rattle.fit.specs.Lane.{Standing, serve, unreleased}
-use Rattle.plan.specs.Placing.{lane_of, lane_row, order, record_of}
+use Rattle.fit.specs.Lane.{Standing, serve}
+use Rattle.plan.specs.Placing.{lane_of, lane_row, order}
 use Rattle.plan.proofs.Order.{length-order, turn-within}
 use Rattle.tasks.specs.declared.record.TaskRecord.{TaskRecord}
-use Rattle.board.specs.PlainBoard.{after_end, after_service, bit, byte_of, closed_byte, closes_at_end, count_from, first_closes, first_waiting, lane_standings}
+use Rattle.board.specs.PlainBoard.{after_end, after_service, bit, byte_of, closed_byte, closes_at_end, count_from, lane_standings}
 use Rattle.board.specs.Queues.{stands_at}
 use Rattle.board.specs.Seating.{plan_of, tasks_on}
-use Rattle.board.specs.Serving.{LaneServed, LanesServed, SameButJobs}
-use Rattle.board.specs.Steps.{next_on, served_by}
+use Rattle.board.specs.Serving.{LanesServed, SameButJobs}
+use Rattle.board.specs.Steps.{SlotGiven, closed_by, next_on, served_by}
 use Rattle.board.specs.View.{board_of, lane_of_standings, numbers_on, standings_on, view}
 use Rattle.board.specs.declared.board.Board.{Board}
 use Rattle.board.specs.declared.seats.Seats.{Seats}
 use Rattle.board.proofs.LaneBytes.{byte_from, byte_more}
 use Rattle.board.proofs.Refusals.{few-tasks, length-lanes, length-standings}
-use Rattle.board.proofs.Lanes.{all_aside, closes-first, distinct_kept, next-first, serve-first}
-use Rattle.board.proofs.View.{lane-stands, length-map-counted, map-counted, order_distinct}
+use Rattle.board.proofs.Lanes.{all_aside, closes-first, closing, distinct_kept, next-first, serve-first}
+use Rattle.board.proofs.Counted.{counted-at, length-counted}
+use Rattle.board.proofs.View.{lane-stands, order_distinct}
 
 module _ (tasks : List TaskRecord) (plan : List ℕ) (ss : List Standing) (lane : ℕ) (said : Bool) where
   abbrev ns : List ℕ
@@ -54,13 +55,10 @@ module _ (tasks : List TaskRecord) (plan : List ℕ) (ss : List Standing) (lane 
       ns (kept_by_passes (λ number. eqb (lane_of plan number) lane) (order tasks)))
       rest (kept_by_passes (λ number. eqb (lane_of plan number) other) (order tasks)))
 
-  abbrev closing_on : List Standing → Bool
-  closing_on stands = elim (first_waiting stands) [ None ↦ false | Some place ↦ first_closes (get_or (lane_row tasks plan lane) place (record_of [] 0)) said (get_or stands place unreleased).waiting ]
-
-  pub lane-closes : closing_on (map (stands_at ss) ns) ≡ elim next [ None ↦ false | Some n ↦ first_closes (record_of tasks n) said (stands_at ss n).waiting ]
+  pub lane-closes : closing said (lane_row tasks plan lane) (map (stands_at ss) ns) ≡ closed_by tasks said ss next
   lane-closes =
       closes-first ss tasks said ns
-      ∙ ap (λ (o : Option ℕ). elim o [ None ↦ false | Some n ↦ first_closes (record_of tasks n) said (stands_at ss n).waiting ]) (sym (next-first ss plan lane (order tasks)))
+      ∙ ap (closed_by tasks said ss) (sym (next-first ss plan lane (order tasks)))
 
 above : (k low : ℕ) {lane : ℕ} → low ≤ k → (k ≡ low → ⊥) → lane - 1 ≡ low → 0 < lane → lane ≤ k
 above k low h e is some = ⊎_elim (λ (l : k < low + 1). absurd (e (omega arith))) (λ (l : low + 1 ≤ k). omega arith) (cases_lt k (low + 1))
@@ -87,7 +85,8 @@ module _ (before : Board) (finished : ℕ) where
   P = plan_of before.seats
 
   module _ (lane byte : ℕ) (now : Board) (half : HalfServed before finished lane byte now) (some : 0 < lane)
-      (closed : Bool) (after : Board) (served : LaneServed now (lane - 1) (bit finished (lane - 1)) closed after) where
+      (closed : Bool) (after : Board) (same : SameButJobs now after)
+      (served : SlotGiven (tasks_on now.seats) (plan_of now.seats) (standings_on now) (lane - 1) (bit finished (lane - 1)) closed (standings_on after)) where
     abbrev low : ℕ
     low = lane - 1
 
@@ -105,9 +104,9 @@ module _ (before : Board) (finished : ℕ) where
         subst (λ (seats : Seats). standings_on after ≡ served_by (tasks_on seats) said ss (next_on (plan_of seats) low ss (order (tasks_on seats))))
         half.same.seats served.stands
 
-    closing : closed ≡ elim (next_on P low ss (order T)) [ None ↦ false | Some n ↦ first_closes (record_of T n) said (stands_at ss n).waiting ]
-    closing =
-        subst (λ (seats : Seats). closed ≡ elim (next_on (plan_of seats) low ss (order (tasks_on seats))) [ None ↦ false | Some n ↦ first_closes (record_of (tasks_on seats) n) said (stands_at ss n).waiting ])
+    closes_as : closed ≡ closed_by T said ss (next_on P low ss (order T))
+    closes_as =
+        subst (λ (seats : Seats). closed ≡ closed_by (tasks_on seats) said ss (next_on (plan_of seats) low ss (order (tasks_on seats))))
         half.same.seats served.closes
 
     as_before : lane_of_standings T P ss low ≡ lane_standings (view before) low
@@ -125,17 +124,17 @@ module _ (before : Board) (finished : ℕ) where
     aside k differ = ap (λ (x : List Standing). lane_of_standings T P x k) stands ∙ lane_aside T P ss low said k differ
 
     bit_is : closed ≡ closes_at_end (view before) finished low
-    bit_is = closing ∙ (sym (lane-closes T P ss low said) ∙ ap (closing_on T P ss low said) as_before)
+    bit_is = closes_as ∙ (sym (lane-closes T P ss low said) ∙ ap (closing said (lane_row T P low)) as_before)
 
-    pub half_next : HalfServed before finished low (cond closed 1 0 + 2 * byte) after
-    half_next =
+    pub half_next : (more : ℕ) → more ≡ cond closed 1 0 + 2 * byte → HalfServed before finished low more after
+    half_next more is =
         record {
           low = omega (arith, half.low);
           same =
               record {
-                seats = served.same.seats ∙ half.same.seats;
-                clock = served.same.clock ∙ half.same.clock;
-                slot = served.same.slot ∙ half.same.slot;
+                seats = same.seats ∙ half.same.seats;
+                clock = same.clock ∙ half.same.clock;
+                slot = same.slot ∙ half.same.slot;
               };
           done =
               λ k h l.
@@ -143,17 +142,18 @@ module _ (before : Board) (finished : ℕ) where
               (λ (e : k ≡ low → ⊥). aside k e ∙ half.done k (above k low h e refl some) l) (cases_eq k low);
           to_do = λ k h. aside k (λ e. omega (arith, e)) ∙ half.to_do k (omega arith);
           bits =
-              ap (λ (x : Bool). cond x 1 0 + 2 * byte) bit_is
+              is
+              ∙ (ap (λ (x : Bool). cond x 1 0 + 2 * byte) bit_is
               ∙ (ap (λ (n : ℕ). cond (closes_at_end (view before) finished low) 1 0 + 2 * n) half.bits
-              ∙ byte_more (closes_at_end (view before) finished) lanes lane some half.low);
+              ∙ byte_more (closes_at_end (view before) finished) lanes lane some half.low));
         }
 
 counted_same : {X : Type 0} (f g : ℕ → X) (d : X) (n : ℕ) → ((k : ℕ) → k < n → f k ≡ g k) → map f (count_from 0 n) ≡ map g (count_from 0 n)
 counted_same f g d n h =
-    ext_get_or d (map f (count_from 0 n)) (map g (count_from 0 n)) (length-map-counted f n ∙ sym (length-map-counted g n))
+    ext_get_or d (map f (count_from 0 n)) (map g (count_from 0 n)) (length-counted f n ∙ sym (length-counted g n))
     (λ k l.
-    let within : k < n = omega (arith, length-map-counted f n) in
-    map-counted f n k d within ∙ (h k within ∙ sym (map-counted g n k d within)))
+    let within : k < n = omega (arith, length-counted f n) in
+    counted-at f n k d within ∙ (h k within ∙ sym (counted-at g n k d within)))
 
 -- The board after every lane was served, the slot shut and the clock one higher.
 pub ended :

@@ -1,27 +1,20 @@
 -- A slot's end takes one job from each lane whose bit is set in its answer, and none from the others.
-use Rattle.std.proofs.Common.{◌≡◌, ℕ, suc, ◌+◌, ◌<◌, Bool, true, false, cond, List, [], ◌∷◌, length, get_or, take, Some, None, sum_by, Option, sym, refl, ap, ◌∙◌, arith}
+use Rattle.std.proofs.Common.{◌≡◌, ℕ, suc, ◌+◌, ◌<◌, Bool, true, false, cond, List, [], ◌∷◌, length, take, Some, None, sum_by, Option, sym, refl, ap, ◌∙◌, arith}
 use Rattle.std.proofs.lemmas.List.Sums.{sum_by-cons}
 use Rattle.tasks.specs.declared.record.TaskRecord.{TaskRecord}
-use Rattle.fit.specs.Lane.{Job, Standing, after_service as service, closes, serve, served_once, unreleased}
+use Rattle.fit.specs.Lane.{Job, Standing, after_service as service, closes, serve, served_once}
 use Rattle.fit.specs.Prefix.{length_releases}
-use Rattle.plan.specs.Placing.{lane_of, lane_row, record_of}
+use Rattle.plan.specs.Placing.{lane_of, lane_row}
 use Rattle.board.specs.declared.call.Call.{Call}
-use Rattle.board.specs.PlainBoard.{PlainBoard, after_end, after_service, bit, closes_at_end, first_closes, first_waiting, lane_standings, new_board}
+use Rattle.board.specs.PlainBoard.{PlainBoard, after_end, after_service, bit, closes_at_end, first_waiting, lane_standings, new_board}
 use Rattle.board.specs.Promise.{AlwaysTold, ClosingsAreTold, board_at, jobs_on}
 use Rattle.board.proofs.Bytes.{bit-counted}
-use Rattle.board.proofs.FirstWaiting.{one_on}
-use Rattle.board.proofs.Run.{Run, WorksFit, counted-at, run-after_calls, run_from_new}
+use Rattle.board.proofs.Lanes.{closes_at, closing, one_on}
+use Rattle.board.proofs.Counted.{counted-at}
+use Rattle.board.proofs.Run.{Run, WorksFit, run-after_calls, run_from_new}
 
 abbrev many : Standing → ℕ
 many s = length s.waiting
-
--- Whether the job of the task at this place closes.
-abbrev closes_at : Bool → List TaskRecord → List Standing → Option ℕ → Bool
-closes_at said row ss None = false
-closes_at said row ss (Some place) = first_closes (get_or row place (record_of [] 0)) said (get_or ss place unreleased).waiting
-
-abbrev closing : Bool → List TaskRecord → List Standing → Bool
-closing said row ss = closes_at said row ss (first_waiting ss)
 
 one_less : (c : Bool) (j : Job) (rest : List Job) → length (cond c rest (j ∷ rest)) + cond c 1 0 ≡ suc (length rest)
 one_less true j rest = omega arith

@@ -1,8 +1,8 @@
 -- The plain board that a board stands for: its lanes, its tasks, and what a change of one task changes.
-use Rattle.std.proofs.Common.{◌≡◌, ℕ, zero, suc, ◌+◌, ◌<◌, ◌≤◌, Bool, true, false, eqb, ◌≢◌, List, [], ◌∷◌, map, length, get_or, set, replicate, is_some, Some, None, sym, refl, ap, ◌∙◌, subst, ⊎_elim, zero-add, arith}
+use Rattle.std.proofs.Common.{◌≡◌, ℕ, ◌<◌, ◌≤◌, Bool, true, false, eqb, ◌≢◌, List, [], ◌∷◌, map, length, get_or, set, replicate, is_some, Some, None, sym, refl, ap, ◌∙◌, subst, ⊎_elim, arith}
 use Rattle.std.specs.List.{AllByRecursion}
 use Rattle.std.proofs.ByRecursion.{All-weaker, kept_by_passes}
-use Rattle.std.proofs.lemmas.List.{ext_get_or, get_or-map, get_or_past, get_or-replicate, get_or-set_other, get_or-set_same, length-map, length-set}
+use Rattle.std.proofs.lemmas.List.{ext_get_or, get_or-map, get_or_past, get_or-replicate, get_or-set_other, get_or-set_same, length-set}
 use Rattle.std.proofs.lemmas.Bool.{cases_eq, cases_lt, eq-eqb, eqb-true}
 use Rattle.fit.specs.Lane.{Standing, unreleased}
 use Rattle.plan.specs.Placing.{lane_of, order, record_of}
@@ -12,23 +12,8 @@ use Rattle.board.specs.PlainBoard.{PlainBoard, busy, count_from, first_waiting, 
 use Rattle.board.specs.Queues.{stands_at}
 use Rattle.board.specs.Steps.{next_on}
 use Rattle.board.specs.View.{board_of, lane_of_standings, numbers_on}
+use Rattle.board.proofs.Counted.{counted-at, length-counted}
 use Rattle.board.proofs.Lanes.{Distinct, In, busy-first, distinct_from_places, distinct_kept, in_at, in_kept, in_place, named_first, next-first, others, with_other}
-
-pub length-counted : (from n : ℕ) → length (count_from from n) ≡ n
-length-counted from zero = refl
-length-counted from (suc n) = ap suc (length-counted (suc from) n)
-
-pub counted-at : (from n k : ℕ) → k < n → get_or (count_from from n) k 0 ≡ from + k
-counted-at from zero k h = absurd (omega arith)
-counted-at from (suc n) zero h = omega arith
-counted-at from (suc n) (suc k) h = omega (arith, counted-at (suc from) n k (omega arith))
-
-pub map-counted : {X : Type 0} (f : ℕ → X) (n k : ℕ) (d : X) → k < n → get_or (map f (count_from 0 n)) k d ≡ f k
-map-counted f n k d h =
-    get_or-map f (count_from 0 n) k 0 d (omega (arith, length-counted 0 n)) ∙ ap f (counted-at 0 n k h ∙ zero-add k)
-
-pub length-map-counted : {X : Type 0} (f : ℕ → X) (n : ℕ) → length (map f (count_from 0 n)) ≡ n
-length-map-counted f n = length-map (count_from 0 n) f ∙ length-counted 0 n
 
 pub order_distinct : (tasks : List TaskRecord) → Distinct (order tasks)
 order_distinct tasks =
@@ -39,12 +24,12 @@ module _ (tasks : List TaskRecord) (lanes : ℕ) (plan : List ℕ) (ss : List St
   b = board_of tasks lanes plan ss clock slot_open
 
   pub lane-stands : (lane : ℕ) → lane < lanes → lane_standings b lane ≡ lane_of_standings tasks plan ss lane
-  lane-stands lane h = map-counted (lane_of_standings tasks plan ss) lanes lane [] h
+  lane-stands lane h = counted-at (lane_of_standings tasks plan ss) lanes lane [] h
 
   pub lane_past : (lane : ℕ) → lanes ≤ lane → lane_standings b lane ≡ []
   lane_past lane h =
       get_or_past (map (lane_of_standings tasks plan ss) (count_from 0 lanes)) lane []
-      (omega (arith, length-map-counted (lane_of_standings tasks plan ss) lanes))
+      (omega (arith, length-counted (lane_of_standings tasks plan ss) lanes))
 
   pub serves_is : (lane : ℕ) → lane < lanes → served_task b lane ≡ next_on plan lane ss (order tasks)
   serves_is lane h =
@@ -93,20 +78,20 @@ module _ (tasks : List TaskRecord) (lanes : ℕ) (plan : List ℕ) (ss : List St
         let each : (k : ℕ) → k < length (set before L changed) → get_or (set before L changed) k [] ≡ get_or (map after (count_from 0 lanes)) k [] =
         λ k l.
         let within : k < lanes =
-        omega (arith, length-set before L changed, length-map-counted (lane_of_standings tasks plan ss) lanes) in
+        omega (arith, length-set before L changed, length-counted (lane_of_standings tasks plan ss) lanes) in
         ⊎_elim
         (λ (same : k ≡ L).
         ap (λ (i : ℕ). get_or (set before L changed) i []) same
-        ∙ (get_or-set_same before L changed [] (omega (arith, length-map-counted (lane_of_standings tasks plan ss) lanes))
-        ∙ (here ∙ (ap after (sym same) ∙ sym (map-counted after lanes k [] within)))))
+        ∙ (get_or-set_same before L changed [] (omega (arith, length-counted (lane_of_standings tasks plan ss) lanes))
+        ∙ (here ∙ (ap after (sym same) ∙ sym (counted-at after lanes k [] within)))))
         (λ (other : k ≡ L → ⊥).
         get_or-set_other before L k changed [] other
         ∙ (lane-stands k within
-        ∙ (sym (others ss task s (numbers_on tasks plan k) (apart k other)) ∙ sym (map-counted after lanes k [] within))))
+        ∙ (sym (others ss task s (numbers_on tasks plan k) (apart k other)) ∙ sym (counted-at after lanes k [] within))))
         (cases_eq k L) in
         ap (λ (ls : List (List Standing)). record { tasks = tasks; plan = plan; clock = clock; slot_open = slot_open; lanes = ls })
         (ext_get_or [] (set before L changed) (map after (count_from 0 lanes))
-        (length-set before L changed ∙ (length-map-counted (lane_of_standings tasks plan ss) lanes ∙ sym (length-map-counted after lanes))) each)
+        (length-set before L changed ∙ (length-counted (lane_of_standings tasks plan ss) lanes ∙ sym (length-counted after lanes))) each)
 
 -- A board on which no task has released anything is a new board.
 pub fresh-stands : (n : ℕ) → stands_at (replicate 32 unreleased) n ≡ unreleased

@@ -1,5 +1,5 @@
 -- How a task stands, read off its queue, and what the queue's steps leave.
-use Rattle.std.specs.Prelude.{◌≡◌, ℕ, ◌<◌, ◌≤◌, Bool, true, false, List, [], ◌∷◌, map, length, slice_index_or, slice_set}
+use Rattle.std.specs.Prelude.{◌≡◌, ℕ, ◌<◌, ◌≤◌, Bool, true, false, List, [], ◌∷◌, map, length, Ok, Err, Result, slice_index_or, slice_set}
 use Rattle.board.specs.Releases.{released_before}
 use Rattle.board.specs.declared.release.Release.{Release}
 use Rattle.board.specs.declared.task_queue.TaskQueue.{TaskQueue}
@@ -24,9 +24,9 @@ abbrev pub has_job : Standing → Bool
 has_job s = elim s.waiting [ [] ↦ false | job ∷ jobs ↦ true ]
 
 -- A job was taken, or four wait already and nothing changed.
-abbrev pub TakenIn : TaskQueue → ℕ → Bool → TaskQueue → Type 0
-TakenIn q clock true q' = (length (standing q).waiting < 4) × (standing q' ≡ with_job clock (standing q))
-TakenIn q clock false q' = (4 ≤ length (standing q).waiting) × (q' ≡ q)
+abbrev pub TakenIn : {E : Type 0} → TaskQueue → ℕ → Result (Unit {0}) E → TaskQueue → Type 0
+TakenIn q clock (Ok _) q' = (length (standing q).waiting < 4) × (standing q' ≡ with_job clock (standing q))
+TakenIn q clock (Err _) q' = (4 ≤ length (standing q).waiting) × (q' ≡ q)
 
 -- The task after one slot of service to its earliest waiting job, if it has one.
 abbrev pub after_slot_of : TaskRecord → Bool → Standing → Standing
@@ -37,7 +37,7 @@ abbrev pub stands_at : List Standing → ℕ → Standing
 stands_at standings number = slice_index_or standings number unreleased
 
 -- A job of one task was taken, or four wait already; every other task stands as before.
-abbrev pub JobTaken : List Standing → ℕ → ℕ → Bool → List Standing → Type 0
-JobTaken before number clock true after =
+abbrev pub JobTaken : {E : Type 0} → List Standing → ℕ → ℕ → Result (Unit {0}) E → List Standing → Type 0
+JobTaken before number clock (Ok _) after =
     (length (stands_at before number).waiting < 4) × (after ≡ slice_set before number (with_job clock (stands_at before number)))
-JobTaken before number clock false after = (4 ≤ length (stands_at before number).waiting) × (after ≡ before)
+JobTaken before number clock (Err _) after = (4 ≤ length (stands_at before number).waiting) × (after ≡ before)

@@ -18,7 +18,7 @@ pub enum Call {
     Clock,
 }
 
-// What a board answers.
+// What a board answers. Not a Result: it is the record of one call of a day, and the definitions range over such records.
 #[derive(Clone, Copy)]
 pub enum Answer {
     // The job was taken: the clock by which it will be closed.

@@ -42,6 +42,7 @@ fn ready<F: FitTest>(
     if count > MOST_TASKS {
         return Err(BoardFault::Plan(PlanFault::PlanLength(count)));
     }
+    // Bytes of its own in a fixed array: no heap.
     let mut lanes = [0; MOST_TASKS];
     ready_by(board, list, &mut lanes[0..count], plan, start, test)
 }

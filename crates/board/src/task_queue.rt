@@ -1,5 +1,6 @@
 // The waiting jobs of one task.
 ghost use Rattle.std.specs.Prelude.{◌≡◌, ◌≤◌, true, length};
+ghost use Rattle.board.specs.PlainBoard.{clock_end};
 ghost use Rattle.board.specs.Releases.{later_than};
 ghost use Rattle.queue.specs.Queue.{count};
 ghost use Rattle.std.specs.Option.{unwrap_or};
@@ -17,6 +18,6 @@ pub(crate) struct TaskQueue {
     served: u32,
     ghost four: { length places ≡ 4 },
     ghost no_later: { count (later_than last) places ≡ 0 },
-    ghost in_time: { unwrap_or last 0 ≤ 1099511627776 },
+    ghost in_time: { unwrap_or last 0 ≤ clock_end },
     ghost idle: { count (λ _. true) places ≡ 0 → served ≡ 0 },
 }

@@ -1,4 +1,5 @@
 // What is proved of every board and every list of calls: each function's contract is one theorem.
+// Each spells its premises out, so that it can be read alone.
 ghost use Rattle.std.specs.Prelude.{ℕ, ◌<◌, List, length};
 ghost use Rattle.board.specs.PlainBoard.{PlainBoard, after_calls, answers_to, new_board};
 ghost use Rattle.board.specs.Promise.{AlwaysOnTime, AlwaysRuns, AlwaysTold, ClosedRightly, NeverFull, PlansAreJudged, Promise};

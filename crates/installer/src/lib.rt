@@ -8,7 +8,7 @@ use plan::fault::PlanFault;
 use plan::place::place;
 use tasks::list::TaskList;
 
-// Places the sheet's list by the linear test over the sheet's grid, into the first bytes of the plan.
+// Places the sheet's list by the linear test over the sheet's grid, into the first bytes of the plan. A number and no Result: it is C's call.
 // 0, or the number of the first fault that applies; then no byte of the plan was touched.
 #[unsafe(no_mangle)]
 pub extern "C" fn lanes_place(sheet: &[u8], plan: &mut [u8]) -> u32

@@ -2,14 +2,13 @@
 ghost use Rattle.std.specs.Prelude.{◌≡◌, ◌+◌, ◌*◌, ◌<◌, map, length, IfSome, if◌then◌else◌};
 ghost use Rattle.board.specs.PlainBoard.{bit, busy, busy_byte, count_from, first_fault, not_served};
 ghost use Rattle.board.specs.Seating.{plan_of, tasks_on};
-ghost use Rattle.board.specs.Serving.{LaneServed, LanesServed};
+ghost use Rattle.board.specs.Serving.{LanesServed};
 ghost use Rattle.board.specs.Steps.{next_on};
 ghost use Rattle.board.specs.View.{standings_on, view};
 ghost use Rattle.plan.specs.Placing.{order};
 ghost use Rattle.std.specs.Result.{result_err};
 
 use crate::board::Board;
-use crate::board::at_hand::serve;
 use crate::fault::BoardFault;
 
 impl Board {
@@ -25,14 +24,14 @@ impl Board {
         ensures value { result ≡ next_on (plan_of self.now.seats) lane (standings_on self.now) (order (tasks_on self.now.seats)) }
         ensures bound { IfSome result (λ number. number < length (tasks_on self.now.seats)) }
     {
-        if lane < 4 { self.next[lane] } else { None }
+        self.jobs.next(lane)
     }
 
     // Whether the lane has a job to serve.
     pub(crate) fn is_busy(&self, lane: usize) -> bool
         ensures { result ≡ busy (view self.now) lane }
     {
-        lane < self.seats.lanes() as usize && self.served(lane).is_some()
+        lane < self.seats.lanes() && self.served(lane).is_some()
     }
 
     // The byte whose bit k says that lane k has a job to serve.
@@ -40,10 +39,8 @@ impl Board {
         ensures { result ≡ busy_byte (view self.now) }
     {
         let mut byte = 0;
-        let mut lane = self.seats.lanes();
-        while lane > 0 {
-            lane -= 1;
-            byte = with_low_bit(byte, self.is_busy(lane as usize));
+        for lane in (0..self.seats.lanes()).rev() {
+            byte = with_low_bit(byte, self.is_busy(lane));
         }
         byte
     }
@@ -52,35 +49,21 @@ impl Board {
     pub(crate) fn all_served(&self, finished: u8) -> Result<(), BoardFault>
         ensures { first_fault (map (not_served (view self.now) finished) (count_from 0 8)) ≡ result_err result }
     {
-        for lane in 0..8 {
-            if bit_of(finished, lane) && !self.is_busy(lane) {
-                return Err(BoardFault::NotServed(lane));
-            }
-        }
-        Ok(())
-    }
-
-    // Serves one slot to the job that the lane serves, if it serves one, and says whether that job closes.
-    pub(crate) fn serve_lane(&mut self, lane: usize, said: bool) -> bool
-        ensures { LaneServed self.old lane said result self.new }
-    {
-        if lane < 4 {
-            serve(&self.seats, &mut self.jobs, &mut self.next, lane, said)
-        } else {
-            false
+        match (0..8).find(|&lane| bit_of(finished, lane) && !self.is_busy(lane)) {
+            Some(lane) => Err(BoardFault::NotServed(lane)),
+            None => Ok(()),
         }
     }
 
     // Serves one slot on every lane. Bit k of the answer says that the job of lane k closes.
+    // Not one function with `busy_lanes`: its closure would change the jobs, and a contract that tells of each call is longer than both loops.
     pub(crate) fn serve_lanes(&mut self, finished: u8) -> u8
         ensures { LanesServed self.old finished result self.new }
     {
         let mut byte = 0;
-        let mut lane = self.seats.lanes();
-        while lane > 0 {
-            lane -= 1;
-            let said = bit_of(finished, lane as usize);
-            byte = with_low_bit(byte, self.serve_lane(lane as usize, said));
+        for lane in (0..self.seats.lanes()).rev() {
+            let closed = self.jobs.serve(&self.seats, lane, bit_of(finished, lane));
+            byte = with_low_bit(byte, closed);
         }
         byte
     }
@@ -91,7 +74,7 @@ pub(crate) fn with_low_bit(byte: u8, low: bool) -> u8
     requires { byte < 128 }
     ensures { result ≡ (if low then 1 else 0) + 2 * byte }
 {
-    if low { 1 + 2 * byte } else { 2 * byte }
+    u8::from(low) + 2 * byte
 }
 
 // Bit k of a byte.

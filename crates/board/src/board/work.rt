@@ -9,7 +9,6 @@ ghost use Rattle.board.specs.declared.call.Call.TheVariants as call;
 ghost use Rattle.tasks.specs.Filling.{tasks_of};
 
 use crate::board::Board;
-use crate::board::at_hand::post;
 use crate::call::{Answer, Call};
 use crate::fault::BoardFault;
 use crate::jobs::Jobs;
@@ -29,7 +28,6 @@ impl Board {
         Board {
             seats: Seats::none(),
             jobs: Jobs::none(),
-            next: [None; 4],
             clock: 0,
             slot_open: false,
         }
@@ -42,14 +40,14 @@ impl Board {
         if task >= self.seats.count() {
             return Err(BoardFault::NoTask(task));
         }
-        Ok(self.jobs.count(task))
+        Ok(self.jobs.queue(task).count())
     }
 
     // The task that the lane serves in the open slot, if it serves one.
     pub fn serving(&self, lane: usize) -> Result<Option<usize>, BoardFault>
         ensures { Answered (view self.now) (call.Serving lane) answer.Serving result (view self.now) }
     {
-        if lane >= self.seats.lanes() as usize {
+        if lane >= self.seats.lanes() {
             return Err(BoardFault::NoLane(lane));
         }
         if !self.slot_open {
@@ -59,6 +57,7 @@ impl Board {
     }
 
     // Makes this a new board, of the list's tasks on the lanes of the plan, at the starting clock.
+    // List, plan, clock and test are the caller's own four things: a struct of them would only be taken apart here.
     pub fn set_up<F: FitTest>(
         &mut self,
         list: &TaskList,
@@ -75,7 +74,6 @@ impl Board {
         *self = Board {
             seats: Seats::new(list, plan),
             jobs: Jobs::none(),
-            next: [None; 4],
             clock: start,
             slot_open: false,
         };
@@ -93,19 +91,13 @@ impl Board {
             return Err(BoardFault::SlotOpen(self.clock));
         }
         let numbers = self.seats.task(task);
-        let next = self.jobs.next_release(task, numbers);
+        let next = self.jobs.queue(task).next_release(numbers);
         if self.clock < next {
             return Err(BoardFault::Early(next));
         }
-        if !post(
-            &self.seats,
-            &mut self.jobs,
-            &mut self.next,
-            task,
-            self.clock,
-        ) {
-            return Err(BoardFault::QueueFull(task));
-        }
+        self.jobs
+            .post(&self.seats, task, self.clock)
+            .map_err(|_| BoardFault::QueueFull(task))?;
         Ok(self.clock + u64::from(numbers.limit))
     }
 
@@ -139,32 +131,23 @@ impl Board {
         Ok(closed)
     }
 
-    // Answers any call.
+    // Answers any call. A match and no closure: a call is data, since a day is a list of calls.
     pub fn answer(&mut self, asked: Call) -> Answer
         ensures value { result ≡ answer_to (view self.old) asked }
         ensures after { view self.new ≡ after_call (view self.old) asked }
     {
         match asked {
-            Call::Post(task) => match self.post(task) {
-                Ok(deadline) => Answer::Posted(deadline),
-                Err(fault) => Answer::Refused(fault),
-            },
-            Call::Begin => match self.begin() {
-                Ok(busy) => Answer::Begun(busy),
-                Err(fault) => Answer::Refused(fault),
-            },
-            Call::End(finished) => match self.end(finished) {
-                Ok(closed) => Answer::Ended(closed),
-                Err(fault) => Answer::Refused(fault),
-            },
-            Call::Serving(lane) => match self.serving(lane) {
-                Ok(task) => Answer::Serving(task),
-                Err(fault) => Answer::Refused(fault),
-            },
-            Call::Waiting(task) => match self.waiting(task) {
-                Ok(count) => Answer::Waiting(count),
-                Err(fault) => Answer::Refused(fault),
-            },
+            Call::Post(task) => self.post(task).map_or_else(Answer::Refused, Answer::Posted),
+            Call::Begin => self.begin().map_or_else(Answer::Refused, Answer::Begun),
+            Call::End(finished) => self
+                .end(finished)
+                .map_or_else(Answer::Refused, Answer::Ended),
+            Call::Serving(lane) => self
+                .serving(lane)
+                .map_or_else(Answer::Refused, Answer::Serving),
+            Call::Waiting(task) => self
+                .waiting(task)
+                .map_or_else(Answer::Refused, Answer::Waiting),
             Call::Clock => Answer::Clock(self.clock()),
         }
     }

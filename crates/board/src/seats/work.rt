@@ -1,7 +1,7 @@
 // Filling the seats, and looking at them.
 ghost use Rattle.std.specs.Prelude.{◌≡◌, ℕ, ◌<◌, ◌≤◌, [], length, take};
 ghost use Rattle.board.specs.Seating.{plan_of, tasks_on};
-ghost use Rattle.plan.specs.Placing.{LanesAreSafe, lane_of, record_of, turn};
+ghost use Rattle.plan.specs.Placing.{LanesAreSafe, lane_of, order, record_of};
 ghost use Rattle.tasks.specs.Filling.{tasks_of};
 
 use crate::seats::Seats;
@@ -17,9 +17,7 @@ fn padded(plan: &[u8]) -> [u8; 32]
     ensures front { take (length plan.now) result ≡ plan.now }
 {
     let mut lanes = [0; MOST_TASKS];
-    for (number, lane) in plan.iter().enumerate() {
-        lanes[number] = *lane;
-    }
+    lanes[..plan.len()].copy_from_slice(plan);
     lanes
 }
 
@@ -59,13 +57,13 @@ impl Seats {
     }
 
     // How many lanes there are.
-    pub(crate) fn lanes(&self) -> u8
+    pub(crate) fn lanes(&self) -> usize
         ensures { result ≡ self.now.list.lanes }
     {
-        self.list.lanes()
+        usize::from(self.list.lanes())
     }
 
-    // The task of this number.
+    // The task of this number. The bound ties the number to these seats, so no type of numbers can hold it.
     pub(crate) fn task(&self, number: usize) -> TaskRecord
         requires { number < length (tasks_on self.now) }
         ensures { result ≡ record_of (tasks_on self.now) number }
@@ -74,19 +72,17 @@ impl Seats {
     }
 
     // The lane of the task of this number.
-    pub(crate) fn lane(&self, number: usize) -> u8
+    pub(crate) fn lane(&self, number: usize) -> usize
         requires { number < length (tasks_on self.now) }
         ensures { result ≡ lane_of (plan_of self.now) number }
     {
-        self.lane_of[number]
+        usize::from(self.lane_of[number])
     }
 
-    // The number of the task whose turn is the k-th.
-    pub(crate) fn turn(&self, k: usize) -> usize
-        requires { k < length (tasks_on self.now) }
-        ensures value { result ≡ turn (tasks_on self.now) k }
-        ensures bound { result < length (tasks_on self.now) }
+    // The tasks' numbers in their order.
+    pub(crate) fn order(&self) -> &[usize]
+        ensures { result.now ≡ order (tasks_on self.now) }
     {
-        self.turns[k]
+        &self.turns[..self.list.len()]
     }
 }

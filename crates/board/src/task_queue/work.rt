@@ -1,17 +1,18 @@
 // What the queue of a task does.
 ghost use Rattle.std.specs.Prelude.{◌≡◌, ◌≤◌, length};
-ghost use Rattle.board.specs.PlainBoard.{first_closes, next_release};
+ghost use Rattle.board.specs.PlainBoard.{clock_end, first_closes, next_release};
 ghost use Rattle.board.specs.Queues.{TakenIn, after_slot_of, has_job, standing};
 ghost use Rattle.fit.specs.Lane.{unreleased};
 ghost use Rattle.std.specs.Option.{unwrap_or};
 
 use crate::release::Release;
 use crate::task_queue::TaskQueue;
-use queue::{put, take};
+use queue::{Full, put, take};
 use tasks::record::TaskRecord;
 
 impl TaskQueue {
     // The queue of a task that has released nothing.
+    #[tactic(auto, unfolding(crate::specs::Queues::standing))]
     pub(crate) fn new() -> TaskQueue
         ensures { standing result ≡ unreleased }
     {
@@ -26,51 +27,33 @@ impl TaskQueue {
     pub(crate) fn next_release(&self, task: TaskRecord) -> u64
         ensures { result ≡ next_release task (standing self.now) }
     {
-        match self.last {
-            Some(last) => last + u64::from(task.gap),
-            None => 0,
-        }
+        self.last.map_or(0, |last| last + u64::from(task.gap))
     }
 
     // How many jobs wait.
     pub(crate) fn count(&self) -> usize
         ensures { result ≡ length (standing self.now).waiting }
     {
-        let mut waiting = 0;
-        for place in self.places.iter() {
-            if place.is_some() {
-                waiting += 1;
-            }
-        }
-        waiting
+        self.places.iter().filter(|place| place.is_some()).count()
     }
 
     // Whether a job waits.
     pub(crate) fn is_waiting(&self) -> bool
         ensures { result ≡ has_job (standing self.now) }
     {
-        for place in self.places.iter() {
-            if place.is_some() {
-                return true;
-            }
-        }
-        false
+        self.places.iter().any(|place| place.is_some())
     }
 
     // Takes a job that is released at this clock, unless four wait.
-    pub(crate) fn post(&mut self, clock: u64) -> bool
-        requires { (clock ≤ 1099511627776) × (unwrap_or (standing self.old).last 0 ≤ clock) }
+    pub(crate) fn post(&mut self, clock: u64) -> Result<(), Full<Release>>
+        requires { (clock ≤ clock_end) × (unwrap_or (standing self.old).last 0 ≤ clock) }
         ensures { TakenIn self.old clock result self.new }
     {
         let mut places = self.places;
-        match put(&mut places, Release { at: clock }) {
-            Ok(()) => {
-                self.places = places;
-                self.last = Some(clock);
-                true
-            }
-            Err(_) => false,
-        }
+        put(&mut places, Release { at: clock })?;
+        self.places = places;
+        self.last = Some(clock);
+        Ok(())
     }
 
     // Serves one slot to the earliest waiting job, if one waits, and says whether it closes.

@@ -14,9 +14,9 @@ pub loop-line-preserved : goal.loop-line-preserved
 loop-line-preserved c =
     let b = view c.loop-line.board in
     let line = get_or c.loop-line.lines c.loop-line.line-index none in
-    let given = c.answer-answer.ensures.value ∙ ap (answer_to b) c.said.ensures in
+    let given = c.answer-answer.ensures.value ∙ ap (answer_to b) c.from.ensures in
     one-played (view c.args.board.now) c.args.lines.now c.loop-line.line-index b c.loop-line.lines c.loop-line.invariant
-    none (omega arith) (view c.answer-answer.new.self) (c.answer-answer.ensures.after ∙ ap (after_call b) c.said.ensures) _
+    none (omega arith) (view c.answer-answer.new.self) (c.answer-answer.ensures.after ∙ ap (after_call b) c.from.ensures) _
     (ap (λ n. record { call = line.call; argument = line.argument; code = n; value = c.value_of-line.result }) (c.code_of-line.ensures ∙ ap answer_code given)
     ∙ ap (λ n. record { call = line.call; argument = line.argument; code = answer_code (answer_to b (call_said line)); value = n }) (c.value_of-line.ensures ∙ ap answer_value given))
 

@@ -4,6 +4,3 @@ use Rattle.board.proofs.board.Board.serve_lanes.Given as goal
 
 abbrev pub invariant-loop-lane : goal.invariant-loop-lane
 invariant-loop-lane l = HalfServed l.initial.self l.finished l.lane l.byte l.self
-
-abbrev pub decreases-loop-lane : goal.decreases-loop-lane
-decreases-loop-lane l = l.lane

@@ -15,6 +15,6 @@ returns c =
     let task = c.args.task in
     let inside : task < length (tasks_on b.seats) = omega (arith, c.count.ensures) in (
       ap (λ a. fault_if a (NoTask task)) (lt-leb (length (tasks_on b.seats)) task inside),
-      ap answer.Waiting (c.count-2.ensures ∙ ap (λ (s : Standing). length s.waiting) (sym (view-stands b task inside))),
+      ap answer.Waiting (c.count-2.ensures ∙ ap (λ (s : Standing). length s.waiting) (c.queue.ensures ∙ sym (view-stands b task inside))),
       refl,
     )

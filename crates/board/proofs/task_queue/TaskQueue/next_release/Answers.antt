@@ -1,14 +1,14 @@
 -- The last release and the gap give the next release.
-use Rattle.std.proofs.Common.{ℕ, ◌+◌, Some, None, Option, sym, ap, ◌∙◌, rules}
+use Rattle.std.proofs.Common.{◌≡◌, ℕ, ◌+◌, MatchOption, Some, None, Option, rules}
 use Rattle.board.specs.Queues.{standing}
 use Rattle.board.proofs.task_queue.TaskQueue.next_release.Goals as goal
 
-pub returns-in-Some : goal.returns-in-Some
-unfolding standing
-returns-in-Some c =
-    ap (λ (gap : ℕ). c.in-Some.last + gap) c.from.ensures
-    ∙ ap (λ (o : Option ℕ). elim o [ None ↦ 0 | Some last ↦ last + c.args.task.gap ]) (sym c.in-Some.is)
+from_last :
+    (last : Option ℕ) (r gap : ℕ) (Gives : ℕ → Type 0) → MatchOption last (r ≡ 0) Gives → ((x : ℕ) → Gives x → r ≡ x + gap)
+    → r ≡ elim last [ None ↦ 0 | Some x ↦ x + gap ]
+from_last None r gap Gives m h = m
+from_last (Some x) r gap Gives m h = h x m
 
-pub returns-in-None : goal.returns-in-None
+pub returns : goal.returns
 unfolding standing
-returns-in-None c = search rules
+returns c = from_last c.args.self.now.last _ _ _ c.map_or.ensures (λ x p. search rules)

@@ -6,17 +6,12 @@ use Rattle.board.proofs.Queue.{goes_on, length_jobs, length-standing, none_later
 use Rattle.board.proofs.task_queue.TaskQueue.serve.Goals as goal
 use Rattle.board.proofs.task_queue.TaskQueue.serve.Goals.{then-is_waiting, else-is_waiting, else-not-said-via-then-not-said+else-self-saturating_sub, else-not-said-via-else-not-said}
 
-pub invariant_of-self : goal.invariant_of-self
+pub invariant_of-self-clause-idle : goal.invariant_of-self-clause-idle
 unfolding standing
-invariant_of-self c =
+invariant_of-self-clause-idle c =
     let q = c.args.self.now in
     let some = waits-some (standing q).waiting c.if-is_waiting.ensures in
-    record {
-      four = q.four;
-      no_later = q.no_later;
-      in_time = q.in_time;
-      idle = λ e. absurd (omega (arith, e, some, length-standing q.last q.places q.served));
-    }
+    λ e. absurd (omega (arith, e, some, length-standing q.last q.places q.served))
 
 pub returns-then-self-saturating_sub : goal.returns-then-self-saturating_sub
 unfolding standing
@@ -40,11 +35,9 @@ either_true : {b : Bool} (a : Bool) → b ≡ true → a || b ≡ true
 either_true true e = refl
 either_true false e = e
 
-pub invariant_of-self-2 : goal.invariant_of-self-2
-invariant_of-self-2 c =
-    let q = c.args.self.now in
-    let left = none_later_left q.last q.places q.no_later c.take.result c.take.new.places c.take.ensures in
-    record { four = omega (arith, c.take.auto.places, q.four); no_later = left; in_time = q.in_time; idle = λ _. refl }
+pub invariant_of-self-2-clause-no_later : goal.invariant_of-self-2-clause-no_later
+invariant_of-self-2-clause-no_later c =
+    none_later_left c.args.self.now.last c.args.self.now.places c.args.self.now.no_later c.take.result c.take.new.places c.take.ensures
 
 pub returns : goal.returns
 unfolding standing
