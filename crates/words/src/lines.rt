@@ -44,12 +44,9 @@ impl<'a> Iterator for Lines<'a> {
             return None;
         }
         let end = line_end(rest);
-        if end < rest.len() {
-            self.rest = &rest[end + 1..];
-        } else {
-            self.rest = &rest[end..];
-        }
-        Some(&rest[0..end])
+        // Nothing is left where no line feed ends the line.
+        self.rest = rest.get(end + 1..).unwrap_or(&[]);
+        Some(&rest[..end])
     }
 }
 

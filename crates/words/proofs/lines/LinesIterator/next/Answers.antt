@@ -1,10 +1,8 @@
-use Rattle.std.proofs.Common.{◌≡◌, ◌-◌, ◌∷◌, ap, length, take, arith}
-use Rattle.words.proofs.Feeds.{next_fed, next_last, no_line, some_bytes}
+use Rattle.std.proofs.Common.{ℕ, ◌+◌, List, ap, ◌∙◌, length, refl, arith}
+use Rattle.std.specs.Borrow.{Bor}
+use Rattle.words.proofs.Feeds.{next_line, no_line, part_from}
 use Rattle.std.proofs.lemmas.Grind.{common_steps}
-use Rattle.words.specs.Lines.{lines_left}
-use Rattle.words.specs.declared.lines.Lines.{Lines}
 use Rattle.words.proofs.lines.LinesIterator.next.Goals as goal
-use Rattle.words.proofs.lines.LinesIterator.next.Goals.{then-end-rest, else-end-rest}
 
 pub returns-then-is_empty-clause-steps : goal.returns-then-is_empty-clause-steps
 returns-then-is_empty-clause-steps c =
@@ -12,9 +10,7 @@ returns-then-is_empty-clause-steps c =
 
 pub returns : goal.returns
 returns c =
-    let next : lines_left c.args.self.now ≡ take (c.line_end-end.result - 0) c.args.self.now.rest.now ∷ lines_left c.if-end-rest.self =
-    elim c.if-end-rest.branch [
-      | then-end-rest w ↦ next_fed c.args.self.now.rest.now c.if-end-rest.self.rest.now c.line_end-end.result c.line_end-end.ensures w.if-end-rest.true (ap (λ (l : Lines). l.rest.now) w.self-is)
-      | else-end-rest w ↦ next_last c.args.self.now.rest.now c.if-end-rest.self.rest.now c.line_end-end.result c.line_end-end.ensures (some_bytes c.args.self.now.rest.now c.if-is_empty.ensures) w.if-end-rest.false (ap (λ (l : Lines). l.rest.now) w.self-is)
-    ] in
+    let bytes = c.args.self.now.rest.now in
+    let after = ap (λ (r : Bor (List ℕ)). r.now) c.unwrap_or-self.ensures ∙ part_from bytes (c.line_end-end.result + 1) c.get.result _ c.get.ensures.lookup refl in
+    let next = next_line bytes c.unwrap_or-self.result.now c.line_end-end.result c.line_end-end.ensures c.if-is_empty.ensures after in
     record { steps = next; goes = grind (arith, common_steps, ap length next) }
