@@ -1,4 +1,5 @@
 pub mod Days
+pub mod Firsts
 pub mod Headed
 pub mod Joined
 pub mod Said

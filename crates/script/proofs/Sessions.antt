@@ -35,22 +35,12 @@ no_lines text left (answer ∷ answers) left_is = sym (ap (λ ls. text ++ answer
 pub no_answers : (text : List ℕ) (left : List (List ℕ)) (answers : List Answer) → answers ≡ [] → text ≡ text ++ answer_lines left answers
 no_answers text left answers none = sym (ap (λ given. text ++ answer_lines left given) none ∙ append-nil text)
 
--- what stands past the last entry
-abbrev pub no_entry : Entry
-no_entry = record { call = Post 0; answer = None }
-
 -- the next entry has an answer, or none
-pub given_some : (entries : List Entry) (k : ℕ) (answer : Answer) → k < length entries → (get_or entries k no_entry).answer ≡ Some answer
-    → given_in (drop k entries) ≡ answer ∷ given_in (drop (k + 1) entries)
-given_some entries k answer inside is =
-    let next : suc k ≡ k + 1 = omega arith in
-    ap given_in (drop-cons entries k no_entry inside)
-    ∙ ap (λ o. given_first o (given_in (drop (suc k) entries))) is
-    ∙ ap (λ n. answer ∷ given_in (drop n entries)) next
+pub given_some : (entries later : List Entry) (entry : Entry) (answer : Answer) → entries ≡ entry ∷ later → entry.answer ≡ Some answer → given_in entries ≡ answer ∷ given_in later
+given_some entries later entry answer entries_are is = ap given_in entries_are ∙ ap (λ o. given_first o (given_in later)) is
 
-pub given_none : (entries : List Entry) (k : ℕ) → k < length entries → (get_or entries k no_entry).answer ≡ None → given_in (drop k entries) ≡ []
-given_none entries k inside is =
-    ap given_in (drop-cons entries k no_entry inside) ∙ ap (λ o. given_first o (given_in (drop (suc k) entries))) is
+pub given_none : (entries later : List Entry) (entry : Entry) → entries ≡ entry ∷ later → entry.answer ≡ None → given_in entries ≡ []
+given_none entries later entry entries_are is = ap given_in entries_are ∙ ap (λ o. given_first o (given_in later)) is
 
 -- filled entries give back their answers
 pub given_back : (entries : List Entry) (answers : List Answer) → length answers ≡ length entries → given_in (with_answers entries answers) ≡ answers

@@ -1,6 +1,6 @@
 // The four lines that a recorded day begins with.
-ghost use Rattle.std.specs.Prelude.{ℕ, List, IfOk};
-ghost use Rattle.script.specs.Headings.{FitRead, PlanRead, SheetRead, StartRead};
+ghost use Rattle.std.specs.Prelude.{◌≡◌, IfOk};
+ghost use Rattle.script.specs.Headings.{fit_word, FitOfRead, FitRead, PlanRead, SheetRead, StartRead};
 
 use std::alloc::{AllocError, Global};
 use words::hex::hexed;
@@ -16,6 +16,19 @@ pub enum TestName {
     Exact,
     // Linear or exact.
     Either,
+}
+
+impl TestName {
+    // What a line with this name begins with.
+    fn word(self) -> &'static [u8]
+        ensures { result.now ≡ fit_word self }
+    {
+        match self {
+            TestName::Linear => b"fit linear ",
+            TestName::Exact => b"fit exact ",
+            TestName::Either => b"fit either ",
+        }
+    }
 }
 
 // A surcharge of this cost over that test.
@@ -54,29 +67,21 @@ pub(crate) fn plan(heap: Global, line: &[u8]) -> Result<Option<PlanChoice>, Allo
     }
 }
 
+// The fit test of this name and its cost, if the line says them.
+fn fit_of(line: &[u8], test: TestName) -> Option<FitChoice>
+    ensures { FitOfRead line.now test result }
+{
+    let cost = numbered(line, test.word(), MOST_NUMBER)? as u32;
+    Some(FitChoice { test, cost })
+}
+
 // The fit test and its cost, if the line says them.
 pub(crate) fn fit(line: &[u8]) -> Option<FitChoice>
     ensures { FitRead line.now result }
 {
-    if let Some(cost) = numbered(line, b"fit linear ", MOST_NUMBER) {
-        return Some(FitChoice {
-            test: TestName::Linear,
-            cost: cost as u32,
-        });
-    }
-    if let Some(cost) = numbered(line, b"fit exact ", MOST_NUMBER) {
-        return Some(FitChoice {
-            test: TestName::Exact,
-            cost: cost as u32,
-        });
-    }
-    if let Some(cost) = numbered(line, b"fit either ", MOST_NUMBER) {
-        return Some(FitChoice {
-            test: TestName::Either,
-            cost: cost as u32,
-        });
-    }
-    None
+    fit_of(line, TestName::Linear)
+        .or_else(|| fit_of(line, TestName::Exact))
+        .or_else(|| fit_of(line, TestName::Either))
 }
 
 // The starting clock, if the line says one.
