@@ -72,11 +72,7 @@ fn linear_over(list: &TaskList) -> Linear
 }
 
 // The same under the test that the headings name.
-fn play_named(
-    list: &TaskList,
-    headings: &Headings,
-    entries: &mut [Entry],
-) -> Result<(), BoardFault>
+fn play_named(list: &TaskList, headings: &Headings, entries: &mut [Entry]) -> Result<(), BoardFault>
     ensures { Named headings.now.fit.test headings.now.fit.cost list.now.grid list.now.lanes (tasks_of list.now) (proposed headings.now.plan) headings.now.start entries.old result entries.new }
 {
     match headings.fit.test {

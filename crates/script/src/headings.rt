@@ -38,7 +38,7 @@ pub struct FitChoice {
     pub cost: u32,
 }
 
-// Where the plan comes from.
+// Where the plan comes from. No Option, since a line may say no plan at all: two of them, one in the other, would read worse.
 #[derive(Drop)]
 pub enum PlanChoice {
     // Placed under the day's fit test.
@@ -61,10 +61,8 @@ pub(crate) fn plan(heap: Global, line: &[u8]) -> Result<Option<PlanChoice>, Allo
     if is_word(line, b"plan auto") {
         return Ok(Some(PlanChoice::Auto));
     }
-    match hexed(heap, line, b"plan ")? {
-        Some(bytes) => Ok(Some(PlanChoice::Proposed(bytes))),
-        None => Ok(None),
-    }
+    let proposed = hexed(heap, line, b"plan ")?;
+    Ok(proposed.map(|bytes| PlanChoice::Proposed(bytes)))
 }
 
 // The fit test of this name and its cost, if the line says them.

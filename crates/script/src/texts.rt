@@ -5,9 +5,8 @@ ghost use Rattle.script.specs.Texts.{answer_line, answer_text, not_understood_li
 
 use board::call::Answer;
 use board::fault::BoardFault;
-use std::fmt;
-use std::io;
 use std::io::Write;
+use std::{fmt, io};
 
 // An answer, as it is printed.
 #[derive(Clone, Copy)]
@@ -18,13 +17,10 @@ impl fmt::Display for Printed {
 
     fn fmt<W: fmt::Write>(&self, f: &mut fmt::Formatter<W>) -> fmt::Result {
         match self.0 {
-            Answer::Posted(clock) => write!(f, "{clock}"),
-            Answer::Begun(byte) => write!(f, "{byte}"),
-            Answer::Ended(byte) => write!(f, "{byte}"),
-            Answer::Serving(Some(task)) => write!(f, "{task}"),
+            Answer::Posted(clock) | Answer::Clock(clock) => write!(f, "{clock}"),
+            Answer::Begun(byte) | Answer::Ended(byte) => write!(f, "{byte}"),
+            Answer::Serving(Some(count)) | Answer::Waiting(count) => write!(f, "{count}"),
             Answer::Serving(None) => write!(f, "none"),
-            Answer::Waiting(jobs) => write!(f, "{jobs}"),
-            Answer::Clock(clock) => write!(f, "{clock}"),
             Answer::Refused(fault) => {
                 let number = fault.number();
                 let place = fault.place();
