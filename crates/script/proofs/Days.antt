@@ -1,5 +1,5 @@
 -- From what each step answers to what is printed for the day.
-use Rattle.std.proofs.Common.{◌≡◌, ℕ, suc, Bool, List, [], ◌∷◌, ◌++◌, length, take, drop, Some, None, Ok, Err, vec_items, Option, Result, IfSome, is_some, sym, refl, ap, ◌∙◌, ◌+◌, subst, inl, inr, append_assoc, append-nil, arith}
+use Rattle.std.proofs.Common.{◌≡◌, ℕ, suc, List, [], ◌∷◌, ◌++◌, length, take, drop, Some, None, Ok, Err, vec_items, Option, Result, IfSome, is_some, sym, refl, ap, ◌∙◌, ◌+◌, subst, inl, inr, append_assoc, append-nil, arith}
 use Rattle.board.specs.Entries.{calls_of}
 use Rattle.board.specs.PlainBoard.{PlainBoard, after_call, answers_to}
 use Rattle.board.specs.Promise.{Performed}

@@ -1,9 +1,8 @@
 -- The calls that lines say, one line after the other, and the lines with their answers.
-use Rattle.std.proofs.Common.{◌≡◌, ℕ, suc, ◌+◌, ◌<◌, Bool, true, false, List, [], ◌∷◌, ◌++◌, length, get_or, drop, Some, None, sym, refl, ap, ◌∙◌, subst, append_assoc, append-nil, arith, drop-cons}
+use Rattle.std.proofs.Common.{◌≡◌, ℕ, Bool, true, false, List, [], ◌∷◌, ◌++◌, length, Some, None, sym, refl, ap, ◌∙◌, subst, append_assoc, append-nil, arith}
 use Rattle.board.specs.declared.call.Answer.{Answer}
 use Rattle.board.specs.Entries.{with_answers}
 use Rattle.board.specs.declared.call.Call.{Call}
-use Rattle.board.specs.declared.call.Call.TheVariants.{Post}
 use Rattle.board.specs.declared.call.Entry.{Entry}
 use Rattle.script.specs.Calls.{CallsSaid, SaysCall, SaysNone}
 use Rattle.script.specs.Calls.CallsSaid.{all_said, goes_on, stops}

@@ -1,10 +1,8 @@
-use Rattle.std.proofs.Common.{Ok, length, vec_items, ap, ◌∙◌, ◌++◌, sym, subst}
+use Rattle.std.proofs.Common.{vec_items, ap, ◌∙◌, ◌++◌}
 use Rattle.board.specs.Codes.{number, place}
 use Rattle.script.proofs.Days.{day_text, last_line_is, no_last_line}
-use Rattle.script.specs.Day.{DayRun}
 use Rattle.script.specs.Day.AfterHeadings.{refused}
-use Rattle.script.specs.Headings.{proposed}
-use Rattle.script.specs.Texts.{answer_lines, given_in, refused_line}
+use Rattle.script.specs.Texts.{refused_line}
 use Rattle.std.proofs.lemmas.Result.{on_ok_weaker}
 use Rattle.words.specs.Lines.{lines_left}
 use Rattle.script.proofs.day.add_day.Goals as goal
