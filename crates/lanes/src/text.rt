@@ -9,14 +9,14 @@ use std::io::Write;
 pub(crate) fn summary(text: &mut Vec<u8>, tasks: usize, lanes: u8, grid: u32) -> io::Result<()>
     ensures { OnOk result (text.new.items ≡ text.old.items ++ summary_line tasks lanes grid) }
 {
-    write!(text, "tasks {tasks} lanes {lanes} grid {grid}\n")
+    writeln!(text, "tasks {tasks} lanes {lanes} grid {grid}")
 }
 
 // Adds the line for a refusal.
 pub(crate) fn refusal(text: &mut Vec<u8>, number: u32, place: usize) -> io::Result<()>
     ensures { OnOk result (text.new.items ≡ text.old.items ++ refusal_line number place) }
 {
-    write!(text, "refused {number} {place}\n")
+    writeln!(text, "refused {number} {place}")
 }
 
 // Adds a space and the name, if there is a name.
@@ -37,5 +37,5 @@ pub(crate) fn placed_task(text: &mut Vec<u8>, task: usize, lane: u8, name: &[u8]
 {
     write!(text, "{task} {lane}")?;
     spaced_name(text, name)?;
-    write!(text, "\n")
+    writeln!(text)
 }

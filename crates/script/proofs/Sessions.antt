@@ -1,12 +1,12 @@
 -- The calls that lines say, one line after the other, and the lines with their answers.
-use Rattle.std.proofs.Common.{◌≡◌, ℕ, Bool, true, false, List, [], ◌∷◌, ◌++◌, length, Some, None, sym, refl, ap, ◌∙◌, subst, append_assoc, append-nil, arith}
+use Rattle.std.proofs.Common.{◌≡◌, ℕ, Bool, true, false, List, [], ◌∷◌, ◌++◌, length, sym, refl, ap, ◌∙◌, subst, append_assoc, append-nil, arith}
 use Rattle.board.specs.declared.call.Answer.{Answer}
 use Rattle.board.specs.Entries.{with_answers}
 use Rattle.board.specs.declared.call.Call.{Call}
 use Rattle.board.specs.declared.call.Entry.{Entry}
 use Rattle.script.specs.Calls.{CallsSaid, SaysCall, SaysNone}
 use Rattle.script.specs.Calls.CallsSaid.{all_said, goes_on, stops}
-use Rattle.script.specs.Texts.{answer_line, answer_lines, given_first, given_in}
+use Rattle.script.specs.Texts.{answer_lines, given_in}
 
 -- of all lines these are left, after these calls
 abbrev pub SaidSoFar : List (List ℕ) → List (List ℕ) → List Call → Type 0
@@ -34,25 +34,9 @@ no_lines text left (answer ∷ answers) left_is = sym (ap (λ ls. text ++ answer
 pub no_answers : (text : List ℕ) (left : List (List ℕ)) (answers : List Answer) → answers ≡ [] → text ≡ text ++ answer_lines left answers
 no_answers text left answers none = sym (ap (λ given. text ++ answer_lines left given) none ∙ append-nil text)
 
--- the next entry has an answer, or none
-pub given_some : (entries later : List Entry) (entry : Entry) (answer : Answer) → entries ≡ entry ∷ later → entry.answer ≡ Some answer → given_in entries ≡ answer ∷ given_in later
-given_some entries later entry answer entries_are is = ap given_in entries_are ∙ ap (λ o. given_first o (given_in later)) is
-
-pub given_none : (entries later : List Entry) (entry : Entry) → entries ≡ entry ∷ later → entry.answer ≡ None → given_in entries ≡ []
-given_none entries later entry entries_are is = ap given_in entries_are ∙ ap (λ o. given_first o (given_in later)) is
-
 -- filled entries give back their answers
 pub given_back : (entries : List Entry) (answers : List Answer) → length answers ≡ length entries → given_in (with_answers entries answers) ≡ answers
 given_back [] [] long = refl
 given_back [] (answer ∷ answers) long = absurd (omega arith)
 given_back (entry ∷ entries) [] long = absurd (omega arith)
 given_back (entry ∷ entries) (answer ∷ answers) long = ap (λ given. answer ∷ given) (given_back entries answers (omega arith))
-
--- one more line with its answer
-pub one_more-line : (text grown : List ℕ) (left after : List (List ℕ)) (line : List ℕ) (answers later : List Answer) (answer : Answer)
-    → left ≡ line ∷ after → answers ≡ answer ∷ later → grown ≡ text ++ answer_line line answer
-    → grown ++ answer_lines after later ≡ text ++ answer_lines left answers
-one_more-line text grown left after line answers later answer left_is answers_are grown_is =
-    ap (λ t. t ++ answer_lines after later) grown_is
-    ∙ append_assoc text (answer_line line answer) (answer_lines after later)
-    ∙ sym (ap (λ ls. text ++ answer_lines ls answers) left_is ∙ ap (λ given. text ++ answer_lines (line ∷ after) given) answers_are)

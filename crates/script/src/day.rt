@@ -71,7 +71,7 @@ fn linear_over(list: &TaskList) -> Linear
     Linear::new(list.grid()).unwrap()
 }
 
-// The same under the test that the headings name.
+// The same under the test that the headings name. No `dyn FitTest`: the surcharge holds the test that is below it.
 fn play_named(list: &TaskList, headings: &Headings, entries: &mut [Entry]) -> Result<(), BoardFault>
     ensures { Named headings.now.fit.test headings.now.fit.cost list.now.grid list.now.lanes (tasks_of list.now) (proposed headings.now.plan) headings.now.start entries.old result entries.new }
 {
@@ -98,10 +98,10 @@ pub(crate) fn run(headings: &Headings, entries: &mut [Entry]) -> Result<(), Boar
 }
 
 // Adds what is printed after the headings.
-fn add_day(text: &mut Vec<u8>, heap: Global, headings: &Headings, lines: Lines) -> io::Result<()>
+fn add_day(text: &mut Vec<u8>, headings: &Headings, lines: Lines) -> io::Result<()>
     ensures { OnOk result (DayText headings.now (lines_left lines.entry) text.old.items text.new.items) }
 {
-    let Session { mut entries, stop } = read_calls(heap, lines)?;
+    let Session { mut entries, stop } = read_calls(*text.allocator(), lines)?;
     if let Err(fault) = run(headings, entries.as_mut_slice()) {
         return not_set_up(text, fault);
     }
@@ -114,12 +114,12 @@ fn add_day(text: &mut Vec<u8>, heap: Global, headings: &Headings, lines: Lines) 
 }
 
 // Adds what is printed for this input.
-fn add_replay(text: &mut Vec<u8>, heap: Global, input: &[u8]) -> io::Result<()>
+fn add_replay(text: &mut Vec<u8>, input: &[u8]) -> io::Result<()>
     ensures { OnOk result (text.old.items ≡ [] → Replay input.now text.new.items) }
 {
     let mut lines = Lines::of(input);
-    match read_opening(heap, &mut lines) {
-        Ok(headings) => add_day(text, heap, &headings, lines),
+    match read_opening(*text.allocator(), &mut lines) {
+        Ok(headings) => add_day(text, &headings, lines),
         Err(OpeningError::NotUnderstood(line)) => not_understood(text, line),
         Err(OpeningError::OutOfMemory) => Err(io::Error::from(AllocError)),
     }
@@ -131,7 +131,7 @@ pub fn replay(heap: Global, input: &[u8]) -> Result<Vec<u8>, AllocError>
 {
     let mut text = Vec::new(heap);
     // Writing to memory fails for want of memory alone.
-    add_replay(&mut text, heap, input).map_err(|_| AllocError)?;
+    add_replay(&mut text, input).map_err(|_| AllocError)?;
     Ok(text)
 }
 

@@ -10,7 +10,7 @@ use words::number::{is_word, numbered};
 pub const MOST_NUMBER: u64 = 4_294_967_295;
 
 // Which fit test judges the plan.
-#[derive(Clone, Copy)]
+#[derive(Clone, Copy, PartialEq, Eq, Debug)]
 pub enum TestName {
     Linear,
     Exact,
@@ -32,14 +32,14 @@ impl TestName {
 }
 
 // A surcharge of this cost over that test.
-#[derive(Clone, Copy)]
+#[derive(Clone, Copy, PartialEq, Eq, Debug)]
 pub struct FitChoice {
     pub test: TestName,
     pub cost: u32,
 }
 
 // Where the plan comes from. No Option, since a line may say no plan at all: two of them, one in the other, would read worse.
-#[derive(Drop)]
+#[derive(PartialEq, Eq, Debug, Drop)]
 pub enum PlanChoice {
     // Placed under the day's fit test.
     Auto,

@@ -10,7 +10,7 @@ use std::alloc::{AllocError, Global};
 use words::lines::Lines;
 
 // What the headings say.
-#[derive(Drop)]
+#[derive(PartialEq, Eq, Debug, Drop)]
 pub struct Headings {
     pub sheet: Vec<u8>,
     pub plan: PlanChoice,
@@ -19,7 +19,7 @@ pub struct Headings {
 }
 
 // Why the headings were not read.
-#[derive(Debug, Drop)]
+#[derive(Clone, Copy, PartialEq, Eq, Debug)]
 pub enum OpeningError {
     // The line with this number, counted from 1, is missing or is not the heading that stands there.
     NotUnderstood(usize),

@@ -8,7 +8,7 @@ use board::fault::BoardFault;
 use std::io::Write;
 use std::{fmt, io};
 
-// An answer, as it is printed.
+// An answer, as it is printed. The answer itself is of another crate.
 #[derive(Clone, Copy)]
 pub(crate) struct Printed(pub Answer);
 
@@ -36,14 +36,14 @@ pub(crate) fn answered(text: &mut Vec<u8>, line: &[u8], given: Answer) -> io::Re
 {
     text.extend_from_slice(line)?;
     let printed = Printed(given);
-    write!(text, " = {printed}\n")
+    writeln!(text, " = {printed}")
 }
 
 // Adds the line for a board that was set up.
 pub(crate) fn set_up(text: &mut Vec<u8>) -> io::Result<()>
     ensures { OnOk result (text.new.items ≡ text.old.items ++ set_up_line) }
 {
-    write!(text, "set up = ok\n")
+    writeln!(text, "set up = ok")
 }
 
 // Adds the line for a board that was not set up.
@@ -52,12 +52,12 @@ pub(crate) fn not_set_up(text: &mut Vec<u8>, fault: BoardFault) -> io::Result<()
 {
     let number = fault.number();
     let place = fault.place();
-    write!(text, "set up = refused {number} {place}\n")
+    writeln!(text, "set up = refused {number} {place}")
 }
 
 // Adds the line that names a line of the input.
 pub(crate) fn not_understood(text: &mut Vec<u8>, line: usize) -> io::Result<()>
     ensures { OnOk result (text.new.items ≡ text.old.items ++ not_understood_line line) }
 {
-    write!(text, "line {line} is not understood\n")
+    writeln!(text, "line {line} is not understood")
 }

@@ -1,6 +1,6 @@
 use Rattle.std.proofs.Common.{vec_items, ap, ◌∙◌, ⊎_elim}
 use Rattle.script.specs.Texts.{given_in}
-use Rattle.script.proofs.Sessions.{given_some, no_answers, no_lines, one_more-line}
+use Rattle.script.proofs.Sessions.{no_answers, no_lines}
 use Rattle.std.proofs.lemmas.List.{nil_from_length}
 use Rattle.words.specs.Lines.{lines_left}
 use Rattle.script.proofs.session.add_answers.Goals as goal
@@ -15,14 +15,3 @@ returns-in-None c =
     (λ ended. no_lines text left (given_in entries) ended.1.0)
     c.in-None.ensures.steps
     ∙ c.loop-entry.invariant.2
-
-pub loop-entry-preserved : goal.loop-entry-preserved
-loop-entry-preserved c =
-    let entries = c.loop-entry.entry-iterator.a.rest.now in
-    let later = c.next.new.self.a.rest.now in
-    let step = c.in-Some.ensures.steps in (
-      (tt, tt),
-      tt,
-      one_more-line (vec_items c.loop-entry.text) (vec_items c.answered.new.text) (lines_left c.loop-entry.entry-iterator.b) (lines_left c.next.new.self.b) c.in-Some.line.now (given_in entries) (given_in later) c.in-Some-answer.answer step.1 (given_some entries later c.in-Some.entry.now c.in-Some-answer.answer step.0 c.in-Some-answer.is) c.in_ok-answered.ensures
-          ∙ c.loop-entry.invariant.2,
-    )
