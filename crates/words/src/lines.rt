@@ -15,7 +15,7 @@ fn line_end(text: &[u8]) -> usize
         .unwrap_or(text.len())
 }
 
-// What is left to read of a text.
+// What is left to read of a text. A copy reads the same lines again.
 #[derive(Clone, Copy)]
 pub struct Lines<'a> {
     rest: &'a [u8],

@@ -38,14 +38,14 @@ pub fn number(bytes: &[u8], most: u64) -> Option<u64>
     Some(value)
 }
 
-// Whether the line is this word.
+// Whether the line is this word. It is `==`, told as a fact of the two lists and not of their elements.
 pub fn is_word(line: &[u8], word: &[u8]) -> bool
     ensures { Decides result (line.now ≡ word.now) }
 {
     line == word
 }
 
-// What follows the word in the line, if the line begins with it.
+// What follows the word in the line, if the line begins with it. It is `strip_prefix`, told as a fact of the whole line.
 pub fn after<'a>(line: &'a [u8], word: &[u8]) -> Option<&'a [u8]>
     ensures { MatchOption result ((rest : List ℕ) → line.now ≢ word.now ++ rest) (λ rest. line.now ≡ word.now ++ rest.now) }
 {
