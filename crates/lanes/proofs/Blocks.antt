@@ -1,5 +1,6 @@
 -- A block of the listing from what place answered.
-use Rattle.std.proofs.Common.{◌≡◌, ℕ, List, ◌++◌, length, ap, ◌∙◌, subst, append_assoc}
+use Rattle.std.proofs.Common.{◌≡◌, ℕ, List, ◌++◌, length, take, drop, ap, ◌∙◌, subst, append_assoc, arith}
+use Rattle.std.proofs.lemmas.Grind.{common_steps}
 use Rattle.lanes.specs.Listing.{refusal_line, task_lines}
 use Rattle.lanes.specs.Listing.Block.{placed, unplaced}
 use Rattle.lanes.specs.Steps.{BlockAdded, LinesAdded}
@@ -12,6 +13,10 @@ use Rattle.tasks.specs.Filling.{tasks_of}
 use Rattle.tasks.specs.Reading.{numbers_said}
 use Rattle.tasks.specs.declared.list.TaskList.{TaskList}
 use Rattle.tasks.specs.declared.record.TaskRecord.{TaskRecord}
+
+-- a plan that was filled in its place
+pub filled_in_place : (plan filled : List ℕ) (count : ℕ) → count ≡ length plan → length filled ≡ length plan → take count (filled ++ drop (length filled) plan) ≡ filled
+filled_in_place plan filled count count_is long = grind (arith, common_steps)
 
 module _ (yes_to : List TaskRecord → TaskRecord → Type 0) (bytes : List ℕ) (list : TaskList) (heading text begun done : List ℕ) (headed : begun ≡ text ++ heading) where
   -- every task has a lane

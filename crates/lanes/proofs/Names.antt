@@ -1,5 +1,5 @@
 -- The name that is read is that of the one list that the bytes spell.
-use Rattle.std.proofs.Common.{◌≡◌, ℕ, List, [], length, get_or, Ok, Err, Option, Result, refl, ap, ◌∙◌, inl, inr, arith}
+use Rattle.std.proofs.Common.{◌≡◌, ℕ, List, [], length, get_or, Ok, Err, Option, Result, ap, ◌∙◌, subst, inl, inr, arith}
 use Rattle.lanes.specs.Steps.{NameThere}
 use Rattle.sheet.specs.Reading.{name_said}
 use Rattle.sheet.specs.Spelling.{Entry}
@@ -13,7 +13,7 @@ abbrev pub name_or_none : Result (Option Part) ListFault → List ℕ
 name_or_none (Ok name) = name_said name
 name_or_none (Err fault) = []
 
-pub name-is : (bytes : List ℕ) (task : ℕ) (r : Result (Option Part) ListFault) → NameRead bytes task r → NameThere bytes task (name_or_none r)
+name-is : (bytes : List ℕ) (task : ℕ) (r : Result (Option Part) ListFault) → NameRead bytes task r → NameThere bytes task (name_or_none r)
 name-is bytes task (Ok name) read grid lanes entries spells inside =
     let same = settled.one_list bytes read.0 grid read.1 lanes read.2 entries read.3 spells in
     read.5.said ∙ ap (λ (es : List Entry). (get_or es task no_entry).name) same.2
@@ -24,7 +24,6 @@ name-is bytes task (Err fault) (inr read) grid lanes entries spells inside =
     let long : length read.2 ≡ length entries = ap length same.2 in
     absurd (let past = read.4 in omega arith)
 
--- what is no name is no bytes
-pub none_unless_ok : (r : Result (Option Part) ListFault) → ((name : Option Part) → r ≡ Ok name → ⊥) → name_or_none r ≡ []
-none_unless_ok (Ok name) refused = absurd (refused name refl)
-none_unless_ok (Err fault) refused = refl
+-- what was read, as bytes
+pub name_there : (bytes : List ℕ) (task : ℕ) (r : Result (Option Part) ListFault) (name : List ℕ) → name_or_none r ≡ name → NameRead bytes task r → NameThere bytes task name
+name_there bytes task r name is read = subst (NameThere bytes task) is (name-is bytes task r read)

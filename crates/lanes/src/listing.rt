@@ -1,5 +1,5 @@
 // What `lanes` prints for a sheet, as a function of its bytes.
-ghost use Rattle.std.specs.Prelude.{length, IfOk, codes, OnOk};
+ghost use Rattle.std.specs.Prelude.{◌≡◌, length, IfOk, OnOk};
 ghost use Rattle.lanes.specs.Listing.{Listing, ListingIsSettled};
 ghost use Rattle.lanes.specs.Steps.{BlockAdded, LinesAdded, NameThere, ReadTextAdded};
 
@@ -9,30 +9,28 @@ use fit::exact::Exact;
 use fit::linear::Linear;
 use fit::question::FitTest;
 use plan::place::place;
-use std::alloc::{AllocError, Global};
+use std::alloc::Global;
+use std::io;
 use tasks::list::TaskList;
 use tasks::read::name;
-use tasks::table::MOST_TASKS;
 
 // The name of a task of a sheet that spells a list; no bytes if it has none.
 fn name_bytes<'a>(sheet: &'a [u8], task: usize) -> &'a [u8]
     ensures { NameThere sheet.now task result.now }
 {
-    let Ok(found) = name(sheet, task) else {
-        return &sheet[0..0];
-    };
-    match found {
-        Some(part) => part.bytes,
-        None => &sheet[0..0],
+    match name(sheet, task) {
+        Ok(Some(part)) => part.bytes,
+        Ok(None) => &[],
+        Err(_) => &[],
     }
 }
 
 // Adds a line for each task of a plan.
-fn lines(text: &mut Vec<u8>, heap: Global, plan: &[u8], sheet: &[u8]) -> Result<(), AllocError>
+fn lines(text: &mut Vec<u8>, plan: &[u8], sheet: &[u8]) -> io::Result<()>
     ensures { OnOk result (LinesAdded sheet.now plan.now (length plan.now) text.old.items text.new.items) }
 {
     for (task, lane) in plan.iter().enumerate() {
-        placed_task(text, heap, task, *lane, name_bytes(sheet, task))?;
+        placed_task(text, task, *lane, name_bytes(sheet, task))?;
     }
     Ok(())
 }
@@ -40,59 +38,54 @@ fn lines(text: &mut Vec<u8>, heap: Global, plan: &[u8], sheet: &[u8]) -> Result<
 // Adds a block: the heading, and a line for each task as the test places it, or for the task that finds no lane.
 fn block<F: FitTest>(
     text: &mut Vec<u8>,
-    heap: Global,
     heading: &[u8],
     test: &F,
     list: &TaskList,
     sheet: &[u8],
-) -> Result<(), AllocError>
+) -> io::Result<()>
     ensures { OnOk result (BlockAdded (F.FitTest.yes test.now) sheet.now list.now heading.now text.old.items text.new.items) }
 {
     text.extend_from_slice(heading)?;
-    let mut lanes = [0; MOST_TASKS];
-    let plan = &mut lanes[0..list.len()];
-    if let Err(fault) = place(list, test, plan) {
-        refusal(text, heap, fault.number(), fault.place())?;
-        return Ok(());
+    let mut plan = vec![in *text.allocator(); 0; list.len()]?;
+    if let Err(fault) = place(list, test, plan.as_mut_slice()) {
+        return refusal(text, fault.number(), fault.place());
     }
-    lines(text, heap, plan, sheet)?;
-    Ok(())
+    lines(text, plan.as_slice(), sheet)
+}
+
+// The linear test over the list's grid.
+fn linear_over(list: &TaskList) -> Linear
+    ensures { result.grid ≡ list.now.grid }
+{
+    // A list's grid is in a test's range.
+    Linear::new(list.grid()).unwrap()
 }
 
 // Adds what is printed for a list that was read.
-fn read_text(
-    text: &mut Vec<u8>,
-    heap: Global,
-    list: &TaskList,
-    sheet: &[u8],
-) -> Result<(), AllocError>
+fn read_text(text: &mut Vec<u8>, list: &TaskList, sheet: &[u8]) -> io::Result<()>
     ensures { OnOk result (ReadTextAdded sheet.now list.now text.old.items text.new.items) }
 {
-    summary(text, heap, list.len(), list.lanes(), list.grid())?;
-    let Ok(linear) = Linear::new(list.grid()) else {
-        // A list's grid is in a test's range.
-        unreachable()
-    };
-    block(text, heap, b"linear\n", &linear, list, sheet)?;
+    summary(text, list.len(), list.lanes(), list.grid())?;
+    let linear = linear_over(list);
+    block(text, b"linear\n", &linear, list, sheet)?;
     let either = Either {
         first: linear,
         second: Exact,
     };
-    block(text, heap, b"either\n", &either, list, sheet)?;
-    Ok(())
+    block(text, b"either\n", &either, list, sheet)
 }
 
 // What is printed for these bytes.
-pub(crate) fn listing(heap: Global, sheet: &[u8]) -> Result<Vec<u8>, AllocError>
+pub(crate) fn listing(heap: Global, sheet: &[u8]) -> io::Result<Vec<u8>>
     ensures { IfOk result (λ text. Listing sheet.now text.items) }
 {
     let mut text = Vec::new(heap);
     let mut list = TaskList::new();
     if let Err(fault) = list.read(sheet) {
-        refusal(&mut text, heap, fault.number(), fault.place())?;
+        refusal(&mut text, fault.number(), fault.place())?;
         return Ok(text);
     }
-    read_text(&mut text, heap, &list, sheet)?;
+    read_text(&mut text, &list, sheet)?;
     Ok(text)
 }
 

@@ -1,8 +1,6 @@
 // Reads a task sheet from standard input and prints what it holds and where its tasks are placed.
 #![tactic(auto)]
 
-ghost use Rattle.std.specs.Prelude.{◌≤◌, length, IfOk};
-
 mod listing;
 mod text;
 
@@ -11,27 +9,11 @@ use std::io;
 use std::io::{Read, Write};
 
 // The most bytes of input that are read as a sheet.
-const MOST_BYTES: usize = 4096;
-
-// Fills the buffer from the input, as far as the input goes, and says how far.
-fn fill(input: &mut impl Read, buffer: &mut [u8]) -> io::Result<usize>
-    ensures { IfOk result (λ filled. filled ≤ length buffer.new) }
-{
-    let mut filled = 0;
-    while filled < buffer.len() {
-        let count = input.read(&mut buffer[filled..])?;
-        if count == 0 {
-            break;
-        }
-        filled += count;
-    }
-    Ok(filled)
-}
+const MOST_BYTES: u64 = 4096;
 
 fn main(rt: HostRuntime) -> io::Result<()> {
-    let mut buffer = [0u8; MOST_BYTES];
-    let mut input = rt.stdin();
-    let filled = fill(&mut input, &mut buffer)?;
-    let text = listing(rt.alloc(), &buffer[0..filled])?;
+    let mut input = Vec::new(rt.alloc());
+    rt.stdin().take(MOST_BYTES).read_to_end(&mut input)?;
+    let text = listing(rt.alloc(), input.as_slice())?;
     rt.stdout().write_all(&text)
 }

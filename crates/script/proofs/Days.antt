@@ -1,5 +1,5 @@
 -- From what each step answers to what is printed for the day.
-use Rattle.std.proofs.Common.{◌≡◌, ℕ, suc, Bool, List, [], ◌∷◌, ◌++◌, length, Some, None, Ok, Err, vec_items, Option, Result, sym, refl, ap, ◌∙◌, subst, inl, inr, append_assoc}
+use Rattle.std.proofs.Common.{◌≡◌, ℕ, suc, List, [], ◌∷◌, ◌++◌, length, take, drop, Some, None, Ok, Err, vec_items, Option, Result, IfSome, is_some, sym, refl, ap, ◌∙◌, ◌+◌, subst, inl, inr, append_assoc, append-nil, arith}
 use Rattle.board.specs.Entries.{calls_of}
 use Rattle.board.specs.PlainBoard.{PlainBoard, after_call, answers_to}
 use Rattle.board.specs.Promise.{Performed}
@@ -11,7 +11,7 @@ use Rattle.fit.specs.Tests.{CostRange, SurchargeYes}
 use Rattle.plan.specs.Placing.{CannotPlace}
 use Rattle.plan.specs.declared.fault.PlanFault.{PlanFault}
 use Rattle.plan.specs.declared.fault.PlanFault.TheVariants.{List as OfList, PlanLength, NoLane, NoFit}
-use Rattle.script.specs.Calls.{CallsSaid}
+use Rattle.script.specs.Calls.{CallsRead}
 use Rattle.script.specs.Day.{AfterHeadings, Chosen, Costed, DayRun, DayText, Named, NoDay, NoStart, Played, Replay, Unplaced, last_line, yes_by_name}
 use Rattle.script.specs.Day.AfterHeadings.{played}
 use Rattle.script.specs.Day.NoDay.{costly, no_start}
@@ -19,7 +19,9 @@ use Rattle.script.specs.Day.Replay.{headed, unheaded}
 use Rattle.script.specs.Headings.{proposed}
 use Rattle.script.specs.Opening.{Opened}
 use Rattle.script.specs.declared.opening.Headings.{Headings}
-use Rattle.script.specs.declared.opening.Opening.TheVariants as opening
+use Rattle.script.specs.declared.session.Session.{Session}
+use Rattle.std.proofs.lemmas.Grind.{common_steps}
+use Rattle.script.specs.declared.opening.OpeningError.TheVariants.{NotUnderstood}
 use Rattle.words.specs.Spelling.{lines_of}
 use Rattle.script.specs.Texts.{answer_lines, given_in, not_understood_line, set_up_line}
 use Rattle.script.specs.declared.headings.TestName.{TestName}
@@ -77,24 +79,41 @@ pub length_answers : (b : PlainBoard) (calls : List Call) → length (answers_to
 length_answers b [] = refl
 length_answers b (call ∷ calls) = ap suc (length_answers (after_call b call) calls)
 
+-- the line that is no call, if there is one, is the last that is printed
+pub last_line_is : (stop : Option ℕ) (line calls : ℕ) → stop ≡ Some line → IfSome stop (λ n. n ≡ calls + 5) → not_understood_line line ≡ last_line (is_some stop) calls
+last_line_is (Some n) line calls is number = let same : line ≡ n = cc in ap not_understood_line (same ∙ number)
+last_line_is None line calls is number = cc
+
+pub no_last_line : (stop : Option ℕ) (text : List ℕ) (calls : ℕ) → stop ≡ None → text ≡ text ++ last_line (is_some stop) calls
+no_last_line stop text calls none = sym (ap (λ (o : Option ℕ). text ++ last_line (is_some o) calls) none ∙ append-nil text)
+
+-- entries that were filled in their place
+filled_in_place : (entries filled : List Entry) (count : ℕ) → count ≡ length entries → length filled ≡ length entries → take count (filled ++ drop (length filled) entries) ≡ filled
+filled_in_place entries filled count count_is long = grind (arith, common_steps)
+
 -- what is printed of a day that was played
-pub day_text : (sheet : List ℕ) (proposal : Option (List ℕ)) (test : TestName) (cost start : ℕ) (lines : List (List ℕ)) (entries filled : List Entry) (stopped : Bool) (text set_up lined done : List ℕ)
-    → CallsSaid lines (calls_of entries) stopped → DayRun sheet proposal test cost start entries (Ok tt) filled
-    → set_up ≡ text ++ set_up_line → lined ≡ set_up ++ answer_lines lines (given_in filled) → done ≡ lined ++ last_line stopped (length entries)
-    → (more : List ℕ) × AfterHeadings sheet proposal test cost start lines more × (done ≡ text ++ more)
-day_text sheet proposal test cost start lines entries filled stopped text set_up lined done said run set_up_is lined_is done_is =
+pub day_text : (h : Headings) (lines : List (List ℕ)) (session : Session) (lent filled back : List Entry) (text set_up lined done : List ℕ)
+    → CallsRead lines session → lent ≡ vec_items session.entries → length filled ≡ length lent → back ≡ take session.entries.len (filled ++ drop (length filled) (vec_items session.entries))
+    → DayRun (vec_items h.sheet) (proposed h.plan) h.fit.test h.fit.cost h.start lent (Ok tt) filled
+    → set_up ≡ text ++ set_up_line → lined ≡ set_up ++ answer_lines lines (given_in back) → done ≡ lined ++ last_line (is_some session.stop) (length (vec_items session.entries))
+    → DayText h lines text done
+day_text h lines session lent filled back text set_up lined done read lent_is filled_long back_is run_lent set_up_is lined_is done_is =
+    let run = subst (λ es. DayRun (vec_items h.sheet) (proposed h.plan) h.fit.test h.fit.cost h.start es (Ok tt) filled) lent_is run_lent in
+    let entries = vec_items session.entries in
+    let stopped = is_some session.stop in
     let answers = run.0 in
     let calls = calls_of entries in
     let count : length calls ≡ length entries = length-map entries (λ (e : Entry). e.call) in
     let long : length answers ≡ length entries = ap length run.1.made.promise.answered ∙ length_answers _ calls ∙ count in
-    let back : given_in filled ≡ answers = ap given_in run.2 ∙ given_back entries answers long in
+    let same : back ≡ filled = back_is ∙ filled_in_place entries filled session.entries.len session.entries.ok.0 (filled_long ∙ ap length lent_is) in
+    let given : given_in back ≡ answers = ap given_in (same ∙ run.2) ∙ given_back entries answers long in
     let whole : done ≡ text ++ (set_up_line ++ (answer_lines lines answers ++ last_line stopped (length calls))) =
     done_is
     ∙ ap (λ n. lined ++ last_line stopped n) (sym count)
-    ∙ ap (λ t. t ++ last_line stopped (length calls)) (lined_is ∙ ap (λ given. set_up ++ answer_lines lines given) back ∙ ap (λ t. t ++ answer_lines lines answers) set_up_is)
+    ∙ ap (λ t. t ++ last_line stopped (length calls)) (lined_is ∙ ap (λ gs. set_up ++ answer_lines lines gs) given ∙ ap (λ t. t ++ answer_lines lines answers) set_up_is)
     ∙ append_assoc (text ++ set_up_line) (answer_lines lines answers) (last_line stopped (length calls))
     ∙ append_assoc text set_up_line (answer_lines lines answers ++ last_line stopped (length calls)) in
-    (set_up_line ++ (answer_lines lines answers ++ last_line stopped (length calls)), played said run.1, whole)
+    (set_up_line ++ (answer_lines lines answers ++ last_line stopped (length calls)), played read.said run.1, whole)
 
 -- the test of a name
 pub by_name : (name test : TestName) (cost there grid lanes : ℕ) (tasks : List TaskRecord) (proposal : Option (List ℕ)) (start : ℕ) (entries : List Entry) (r : Result (Unit {0}) BoardFault) (filled : List Entry)
@@ -105,15 +124,15 @@ by_name name test cost there grid lanes tasks proposal start entries r filled te
     (subst (λ n. Costed (yes_by_name name n) cost lanes tasks proposal start entries r filled) there_is done)
 
 -- what is printed for an input with its headings, and for one without
-pub headed_text : (input : List ℕ) (lines left : List (List ℕ)) (h : Headings) (empty grown text : List ℕ) → lines ≡ lines_of input → Opened lines (opening.Headed h) left
-    → empty ≡ [] → DayText h left empty grown → text ≡ grown → Replay input text
-headed_text input lines left h empty grown text lines_are opened none day text_is =
-    let here = subst (λ ls. Opened ls (opening.Headed h) left) lines_are opened in
+pub headed_text : (input : List ℕ) (lines left : List (List ℕ)) (h : Headings) (empty text : List ℕ) → lines ≡ lines_of input → Opened lines (Ok h) left
+    → empty ≡ [] → DayText h left empty text → Replay input text
+headed_text input lines left h empty text lines_are opened none day =
+    let here = subst (λ ls. Opened ls (Ok h) left) lines_are opened in
     let after = subst (λ ls. AfterHeadings (vec_items h.sheet) (proposed h.plan) h.fit.test h.fit.cost h.start ls day.0) here.1 day.1 in
-    subst (Replay input) (sym (text_is ∙ day.2 ∙ ap (λ t. t ++ day.0) none)) (headed (proposed h.plan) h.fit.test here.0 after)
+    subst (Replay input) (sym (day.2 ∙ ap (λ t. t ++ day.0) none)) (headed (proposed h.plan) h.fit.test here.0 after)
 
-pub unheaded_text : (input : List ℕ) (lines left : List (List ℕ)) (line : ℕ) (empty grown text : List ℕ) → lines ≡ lines_of input → Opened lines (opening.NotUnderstood line) left
-    → empty ≡ [] → grown ≡ empty ++ not_understood_line line → text ≡ grown → Replay input text
-unheaded_text input lines left line empty grown text lines_are opened none grown_is text_is =
-    let here = subst (λ ls. Opened ls (opening.NotUnderstood line) left) lines_are opened in
-    subst (Replay input) (sym (text_is ∙ grown_is ∙ ap (λ t. t ++ not_understood_line line) none)) (unheaded here)
+pub unheaded_text : (input : List ℕ) (lines left : List (List ℕ)) (line : ℕ) (empty text : List ℕ) → lines ≡ lines_of input → Opened lines (Err (NotUnderstood line)) left
+    → empty ≡ [] → text ≡ empty ++ not_understood_line line → Replay input text
+unheaded_text input lines left line empty text lines_are opened none text_is =
+    let here = subst (λ ls. Opened ls (Err (NotUnderstood line)) left) lines_are opened in
+    subst (Replay input) (sym (text_is ∙ ap (λ t. t ++ not_understood_line line) none)) (unheaded here)

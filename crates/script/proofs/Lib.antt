@@ -1,6 +1,6 @@
 pub mod Days
+pub mod Firsts
 pub mod Headed
-pub mod Joined
 pub mod Said
 pub mod Sessions
 pub mod Settled

@@ -1,13 +1,12 @@
 -- The calls that lines say, one line after the other, and the lines with their answers.
-use Rattle.std.proofs.Common.{◌≡◌, ℕ, suc, ◌+◌, ◌<◌, Bool, true, false, List, [], ◌∷◌, ◌++◌, length, get_or, drop, Some, None, sym, refl, ap, ◌∙◌, subst, append_assoc, append-nil, arith, drop-cons}
+use Rattle.std.proofs.Common.{◌≡◌, ℕ, Bool, true, false, List, [], ◌∷◌, ◌++◌, length, sym, refl, ap, ◌∙◌, subst, append_assoc, append-nil, arith}
 use Rattle.board.specs.declared.call.Answer.{Answer}
 use Rattle.board.specs.Entries.{with_answers}
 use Rattle.board.specs.declared.call.Call.{Call}
-use Rattle.board.specs.declared.call.Call.TheVariants.{Post}
 use Rattle.board.specs.declared.call.Entry.{Entry}
 use Rattle.script.specs.Calls.{CallsSaid, SaysCall, SaysNone}
 use Rattle.script.specs.Calls.CallsSaid.{all_said, goes_on, stops}
-use Rattle.script.specs.Texts.{answer_line, answer_lines, given_first, given_in}
+use Rattle.script.specs.Texts.{answer_lines, given_in}
 
 -- of all lines these are left, after these calls
 abbrev pub SaidSoFar : List (List ℕ) → List (List ℕ) → List Call → Type 0
@@ -35,35 +34,9 @@ no_lines text left (answer ∷ answers) left_is = sym (ap (λ ls. text ++ answer
 pub no_answers : (text : List ℕ) (left : List (List ℕ)) (answers : List Answer) → answers ≡ [] → text ≡ text ++ answer_lines left answers
 no_answers text left answers none = sym (ap (λ given. text ++ answer_lines left given) none ∙ append-nil text)
 
--- what stands past the last entry
-abbrev pub no_entry : Entry
-no_entry = record { call = Post 0; answer = None }
-
--- the next entry has an answer, or none
-pub given_some : (entries : List Entry) (k : ℕ) (answer : Answer) → k < length entries → (get_or entries k no_entry).answer ≡ Some answer
-    → given_in (drop k entries) ≡ answer ∷ given_in (drop (k + 1) entries)
-given_some entries k answer inside is =
-    let next : suc k ≡ k + 1 = omega arith in
-    ap given_in (drop-cons entries k no_entry inside)
-    ∙ ap (λ o. given_first o (given_in (drop (suc k) entries))) is
-    ∙ ap (λ n. answer ∷ given_in (drop n entries)) next
-
-pub given_none : (entries : List Entry) (k : ℕ) → k < length entries → (get_or entries k no_entry).answer ≡ None → given_in (drop k entries) ≡ []
-given_none entries k inside is =
-    ap given_in (drop-cons entries k no_entry inside) ∙ ap (λ o. given_first o (given_in (drop (suc k) entries))) is
-
 -- filled entries give back their answers
 pub given_back : (entries : List Entry) (answers : List Answer) → length answers ≡ length entries → given_in (with_answers entries answers) ≡ answers
 given_back [] [] long = refl
 given_back [] (answer ∷ answers) long = absurd (omega arith)
 given_back (entry ∷ entries) [] long = absurd (omega arith)
 given_back (entry ∷ entries) (answer ∷ answers) long = ap (λ given. answer ∷ given) (given_back entries answers (omega arith))
-
--- one more line with its answer
-pub one_more-line : (text grown : List ℕ) (left after : List (List ℕ)) (line : List ℕ) (answers later : List Answer) (answer : Answer)
-    → left ≡ line ∷ after → answers ≡ answer ∷ later → grown ≡ text ++ answer_line line answer
-    → grown ++ answer_lines after later ≡ text ++ answer_lines left answers
-one_more-line text grown left after line answers later answer left_is answers_are grown_is =
-    ap (λ t. t ++ answer_lines after later) grown_is
-    ∙ append_assoc text (answer_line line answer) (answer_lines after later)
-    ∙ sym (ap (λ ls. text ++ answer_lines ls answers) left_is ∙ ap (λ given. text ++ answer_lines (line ∷ after) given) answers_are)

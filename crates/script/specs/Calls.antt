@@ -1,8 +1,10 @@
 -- Which call of the board a line says.
-use Rattle.std.specs.Prelude.{◌≡◌, ℕ, Bool, true, false, List, [], ◌∷◌, codes, Option, MatchOption}
+use Rattle.std.specs.Prelude.{◌≡◌, ℕ, ◌+◌, Bool, true, false, List, [], ◌∷◌, length, codes, Option, MatchOption, IfSome, is_some}
+use Rattle.board.specs.Entries.{calls_of}
 use Rattle.board.specs.declared.call.Call.{Call}
 use Rattle.board.specs.declared.call.Call.TheVariants.{Post, Begin, End, Serving, Waiting, Clock}
 use Rattle.script.specs.Headings.{most_32}
+use Rattle.script.specs.declared.session.Session.{Session}
 use Rattle.words.specs.Spelling.{Numbered}
 
 abbrev pub SaysCall : List ℕ → Call → Type 0
@@ -27,3 +29,8 @@ pub data CallsSaid : List (List ℕ) → List Call → Bool → Type 0 where
   stops : {line : List ℕ} {lines : List (List ℕ)} → SaysNone line → CallsSaid (line ∷ lines) [] true
   goes_on : {line : List ℕ} {lines : List (List ℕ)} {call : Call} {calls : List Call} {stopped : Bool}
       → SaysCall line call → CallsSaid lines calls stopped → CallsSaid (line ∷ lines) (call ∷ calls) stopped
+
+-- The calls that the lines say were read, and the number of the line that is no call, if there is one. The calls begin in line 5.
+pub record CallsRead (lines : List (List ℕ)) (session : Session) : Type 0 where
+  pub said : CallsSaid lines (calls_of session.entries.items) (is_some session.stop)
+  pub stop_is : IfSome session.stop (λ line. line ≡ length session.entries.items + 5)

@@ -49,6 +49,9 @@ SheetRead line found = MatchOption found ((bytes : List ℕ) → SaysSheet line 
 abbrev pub PlanRead : List ℕ → Option PlanChoice → Type 0
 PlanRead line found = MatchOption found ((plan : Option (List ℕ)) → SaysPlan line plan → ⊥) (λ choice. SaysPlan line (proposed choice))
 
+abbrev pub FitOfRead : List ℕ → TestName → Option FitChoice → Type 0
+FitOfRead line test found = MatchOption found ((cost : ℕ) → SaysFit line test cost → ⊥) (λ fit. (fit.test ≡ test) × SaysFit line test fit.cost)
+
 abbrev pub FitRead : List ℕ → Option FitChoice → Type 0
 FitRead line found = MatchOption found ((test : TestName) (cost : ℕ) → SaysFit line test cost → ⊥) (λ fit. SaysFit line fit.test fit.cost)
 

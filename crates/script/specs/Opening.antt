@@ -1,9 +1,10 @@
 -- How a recorded day begins.
-use Rattle.std.specs.Prelude.{◌≡◌, ℕ, List, [], drop, vec_items, Option, slice_index_or}
+use Rattle.std.specs.Prelude.{◌≡◌, ℕ, List, [], drop, Ok, Err, vec_items, Option, Result, slice_index_or}
 use Rattle.script.specs.Headings.{SaysFit, SaysPlan, SaysSheet, SaysStart, proposed}
 use Rattle.script.specs.declared.headings.TestName.{TestName}
-use Rattle.script.specs.declared.opening.Opening.{Opening}
-use Rattle.script.specs.declared.opening.Opening.TheVariants as opening
+use Rattle.script.specs.declared.opening.Headings.{Headings}
+use Rattle.script.specs.declared.opening.OpeningError.{OpeningError}
+use Rattle.script.specs.declared.opening.OpeningError.TheVariants.{NotUnderstood, OutOfMemory}
 
 -- The line with this index. Past the last line stands a blank one, which is no heading.
 abbrev pub line_at : List (List ℕ) → ℕ → List ℕ
@@ -27,8 +28,9 @@ pub data Unheaded (lines : List (List ℕ)) : ℕ → Type 0 where
       → SaysSheet (line_at lines 0) sheet → SaysPlan (line_at lines 1) plan → SaysFit (line_at lines 2) test cost
       → ((start : ℕ) → SaysStart (line_at lines 3) start → ⊥) → Unheaded lines 4
 
--- The headings were read, and these lines are left.
-abbrev pub Opened : List (List ℕ) → Opening → List (List ℕ) → Type 0
-Opened lines (opening.Headed h) left =
+-- The headings were read, and these lines are left; or else a heading is missing, or the memory gave out.
+abbrev pub Opened : List (List ℕ) → Result Headings OpeningError → List (List ℕ) → Type 0
+Opened lines (Ok h) left =
     Headed lines (vec_items h.sheet) (proposed h.plan) h.fit.test h.fit.cost h.start × (left ≡ drop 4 lines)
-Opened lines (opening.NotUnderstood number) left = Unheaded lines number
+Opened lines (Err (NotUnderstood number)) left = Unheaded lines number
+Opened lines (Err OutOfMemory) left = Unit {0}

@@ -9,23 +9,19 @@ use words::number::{is_word, numbered};
 pub(crate) fn call(line: &[u8]) -> Option<Call>
     ensures { CallRead line.now result }
 {
-    if let Some(task) = numbered(line, b"post ", MOST_NUMBER) {
-        return Some(Call::Post(task as usize));
-    }
     if is_word(line, b"begin") {
         return Some(Call::Begin);
-    }
-    if let Some(finished) = numbered(line, b"end ", 255) {
-        return Some(Call::End(finished as u8));
-    }
-    if let Some(lane) = numbered(line, b"serving ", MOST_NUMBER) {
-        return Some(Call::Serving(lane as usize));
-    }
-    if let Some(task) = numbered(line, b"waiting ", MOST_NUMBER) {
-        return Some(Call::Waiting(task as usize));
     }
     if is_word(line, b"clock") {
         return Some(Call::Clock);
     }
-    None
+    numbered(line, b"post ", MOST_NUMBER)
+        .map(|task| Call::Post(task as usize))
+        .or_else(|| numbered(line, b"end ", 255).map(|finished| Call::End(finished as u8)))
+        .or_else(|| {
+            numbered(line, b"serving ", MOST_NUMBER).map(|lane| Call::Serving(lane as usize))
+        })
+        .or_else(|| {
+            numbered(line, b"waiting ", MOST_NUMBER).map(|task| Call::Waiting(task as usize))
+        })
 }

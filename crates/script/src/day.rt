@@ -1,15 +1,13 @@
 // A recorded day, played on a new board.
-ghost use Rattle.board.specs.Entries.{calls_of};
-ghost use Rattle.script.specs.Calls.{CallsSaid};
 ghost use Rattle.script.specs.Day.{Costed, DayRun, DayText, Named, Played, Replay, ReplayIsSettled};
 ghost use Rattle.script.specs.Headings.{proposed};
-ghost use Rattle.std.specs.Prelude.{IfOk, OnOk};
+ghost use Rattle.std.specs.Prelude.{◌≡◌, [], IfOk, OnOk};
 ghost use Rattle.tasks.specs.Filling.{tasks_of};
 ghost use Rattle.words.specs.Lines.{lines_left};
 
-use crate::headings::{FitChoice, PlanChoice, TestName};
-use crate::opening::{Headings, Opening, read_opening};
-use crate::session::{add_answers, read_calls};
+use crate::headings::{PlanChoice, TestName};
+use crate::opening::{Headings, OpeningError, read_opening};
+use crate::session::{Session, add_answers, read_calls};
 use crate::texts::{not_set_up, not_understood, set_up};
 use board::board::Board;
 use board::call::Entry;
@@ -22,6 +20,7 @@ use fit::question::FitTest;
 use fit::surcharge::Surcharge;
 use plan::place::place;
 use std::alloc::{AllocError, Global};
+use std::io;
 use tasks::list::TaskList;
 use tasks::table::MOST_TASKS;
 use words::lines::Lines;
@@ -29,16 +28,17 @@ use words::lines::Lines;
 // Makes the calls on a new board, under a fit test.
 fn play<F: FitTest>(
     list: &TaskList,
-    plan: &PlanChoice,
-    start: u64,
+    headings: &Headings,
     test: &F,
     entries: &mut [Entry],
 ) -> Result<(), BoardFault>
-    ensures { Played (F.FitTest.yes test.now) list.now.lanes (tasks_of list.now) (proposed plan.now) start entries.old result entries.new }
+    ensures { Played (F.FitTest.yes test.now) list.now.lanes (tasks_of list.now) (proposed headings.now.plan) headings.now.start entries.old result entries.new }
 {
     let mut board = Board::new();
-    match plan {
+    let start = headings.start;
+    match &headings.plan {
         PlanChoice::Auto => {
+            // An array for the most tasks: a Vec would bring in a fault of memory, which no board has.
             let mut lanes = [0; MOST_TASKS];
             let room = &mut lanes[0..list.len()];
             place(list, test, room)?;
@@ -50,44 +50,40 @@ fn play<F: FitTest>(
     }
 }
 
-// The same under a surcharge of this cost over a test.
+// The same under a surcharge of the headings' cost over a test.
 fn play_at_cost<T: FitTest + Drop>(
     list: &TaskList,
-    plan: &PlanChoice,
-    start: u64,
+    headings: &Headings,
     below: T,
-    cost: u32,
     entries: &mut [Entry],
 ) -> Result<(), BoardFault>
-    ensures { Costed (T.FitTest.yes below) cost list.now.lanes (tasks_of list.now) (proposed plan.now) start entries.old result entries.new }
+    ensures { Costed (T.FitTest.yes below) headings.now.fit.cost list.now.lanes (tasks_of list.now) (proposed headings.now.plan) headings.now.start entries.old result entries.new }
 {
-    let test = Surcharge::new(below, cost)?;
-    play(list, plan, start, &test, entries)
+    let test = Surcharge::new(below, headings.fit.cost)?;
+    play(list, headings, &test, entries)
 }
 
-// The same under the test of this name.
-fn play_named(
-    list: &TaskList,
-    plan: &PlanChoice,
-    start: u64,
-    fit: FitChoice,
-    entries: &mut [Entry],
-) -> Result<(), BoardFault>
-    ensures { Named fit.test fit.cost list.now.grid list.now.lanes (tasks_of list.now) (proposed plan.now) start entries.old result entries.new }
+// The linear test over the list's grid.
+fn linear_over(list: &TaskList) -> Linear
+    ensures { result.grid ≡ list.now.grid }
 {
-    let Ok(linear) = Linear::new(list.grid()) else {
-        // A list's grid is in a test's range.
-        unreachable()
-    };
-    match fit.test {
-        TestName::Linear => play_at_cost(list, plan, start, linear, fit.cost, entries),
-        TestName::Exact => play_at_cost(list, plan, start, Exact, fit.cost, entries),
+    // A list's grid is in a test's range.
+    Linear::new(list.grid()).unwrap()
+}
+
+// The same under the test that the headings name. No `dyn FitTest`: the surcharge holds the test that is below it.
+fn play_named(list: &TaskList, headings: &Headings, entries: &mut [Entry]) -> Result<(), BoardFault>
+    ensures { Named headings.now.fit.test headings.now.fit.cost list.now.grid list.now.lanes (tasks_of list.now) (proposed headings.now.plan) headings.now.start entries.old result entries.new }
+{
+    match headings.fit.test {
+        TestName::Linear => play_at_cost(list, headings, linear_over(list), entries),
+        TestName::Exact => play_at_cost(list, headings, Exact, entries),
         TestName::Either => {
             let either = Either {
-                first: linear,
+                first: linear_over(list),
                 second: Exact,
             };
-            play_at_cost(list, plan, start, either, fit.cost, entries)
+            play_at_cost(list, headings, either, entries)
         }
     }
 }
@@ -98,53 +94,35 @@ pub(crate) fn run(headings: &Headings, entries: &mut [Entry]) -> Result<(), Boar
 {
     let mut list = TaskList::new();
     list.read(headings.sheet.as_slice())?;
-    play_named(&list, &headings.plan, headings.start, headings.fit, entries)
-}
-
-// Adds what is printed after the headings, where the lines say these calls.
-fn add_played(
-    text: &mut Vec<u8>,
-    heap: Global,
-    headings: &Headings,
-    lines: Lines,
-    stopped: bool,
-    entries: &mut [Entry],
-) -> Result<(), AllocError>
-    requires { CallsSaid (lines_left lines) (calls_of entries.old) stopped }
-    ensures { OnOk result (DayText headings.now (lines_left lines.entry) text.old.items text.new.items) }
-{
-    if let Err(fault) = run(headings, entries) {
-        not_set_up(text, heap, fault.number(), fault.place())?;
-        return Ok(());
-    }
-    set_up(text)?;
-    add_answers(text, heap, lines, entries)?;
-    if stopped {
-        not_understood(text, heap, entries.len() + 5)?;
-    }
-    Ok(())
+    play_named(&list, headings, entries)
 }
 
 // Adds what is printed after the headings.
-fn add_day(
-    text: &mut Vec<u8>,
-    heap: Global,
-    headings: &Headings,
-    lines: Lines,
-) -> Result<(), AllocError>
+fn add_day(text: &mut Vec<u8>, headings: &Headings, lines: Lines) -> io::Result<()>
     ensures { OnOk result (DayText headings.now (lines_left lines.entry) text.old.items text.new.items) }
 {
-    let mut session = read_calls(heap, lines)?;
-    let stopped = session.stopped;
-    add_played(
-        text,
-        heap,
-        headings,
-        lines,
-        stopped,
-        session.entries.as_mut_slice(),
-    )?;
-    Ok(())
+    let Session { mut entries, stop } = read_calls(*text.allocator(), lines)?;
+    if let Err(fault) = run(headings, entries.as_mut_slice()) {
+        return not_set_up(text, fault);
+    }
+    set_up(text)?;
+    add_answers(text, lines, entries.as_slice())?;
+    match stop {
+        Some(line) => not_understood(text, line),
+        None => Ok(()),
+    }
+}
+
+// Adds what is printed for this input.
+fn add_replay(text: &mut Vec<u8>, input: &[u8]) -> io::Result<()>
+    ensures { OnOk result (text.old.items ≡ [] → Replay input.now text.new.items) }
+{
+    let mut lines = Lines::of(input);
+    match read_opening(*text.allocator(), &mut lines) {
+        Ok(headings) => add_day(text, &headings, lines),
+        Err(OpeningError::NotUnderstood(line)) => not_understood(text, line),
+        Err(OpeningError::OutOfMemory) => Err(io::Error::from(AllocError)),
+    }
 }
 
 // What is printed for this input.
@@ -152,11 +130,8 @@ pub fn replay(heap: Global, input: &[u8]) -> Result<Vec<u8>, AllocError>
     ensures { IfOk result (λ text. Replay input.now text.items) }
 {
     let mut text = Vec::new(heap);
-    let mut lines = Lines::of(input);
-    match read_opening(heap, &mut lines)? {
-        Opening::Headed(headings) => add_day(&mut text, heap, &headings, lines)?,
-        Opening::NotUnderstood(line) => not_understood(&mut text, heap, line)?,
-    }
+    // Writing to memory fails for want of memory alone.
+    add_replay(&mut text, input).map_err(|_| AllocError)?;
     Ok(text)
 }
 

@@ -1,6 +1,6 @@
 // The four lines that a recorded day begins with.
-ghost use Rattle.std.specs.Prelude.{ℕ, List, IfOk};
-ghost use Rattle.script.specs.Headings.{FitRead, PlanRead, SheetRead, StartRead};
+ghost use Rattle.std.specs.Prelude.{◌≡◌, IfOk};
+ghost use Rattle.script.specs.Headings.{fit_word, FitOfRead, FitRead, PlanRead, SheetRead, StartRead};
 
 use std::alloc::{AllocError, Global};
 use words::hex::hexed;
@@ -10,7 +10,7 @@ use words::number::{is_word, numbered};
 pub const MOST_NUMBER: u64 = 4_294_967_295;
 
 // Which fit test judges the plan.
-#[derive(Clone, Copy)]
+#[derive(Clone, Copy, PartialEq, Eq, Debug)]
 pub enum TestName {
     Linear,
     Exact,
@@ -18,15 +18,28 @@ pub enum TestName {
     Either,
 }
 
+impl TestName {
+    // What a line with this name begins with.
+    fn word(self) -> &'static [u8]
+        ensures { result.now ≡ fit_word self }
+    {
+        match self {
+            TestName::Linear => b"fit linear ",
+            TestName::Exact => b"fit exact ",
+            TestName::Either => b"fit either ",
+        }
+    }
+}
+
 // A surcharge of this cost over that test.
-#[derive(Clone, Copy)]
+#[derive(Clone, Copy, PartialEq, Eq, Debug)]
 pub struct FitChoice {
     pub test: TestName,
     pub cost: u32,
 }
 
-// Where the plan comes from.
-#[derive(Drop)]
+// Where the plan comes from. No Option, since a line may say no plan at all: two of them, one in the other, would read worse.
+#[derive(PartialEq, Eq, Debug, Drop)]
 pub enum PlanChoice {
     // Placed under the day's fit test.
     Auto,
@@ -48,35 +61,25 @@ pub(crate) fn plan(heap: Global, line: &[u8]) -> Result<Option<PlanChoice>, Allo
     if is_word(line, b"plan auto") {
         return Ok(Some(PlanChoice::Auto));
     }
-    match hexed(heap, line, b"plan ")? {
-        Some(bytes) => Ok(Some(PlanChoice::Proposed(bytes))),
-        None => Ok(None),
-    }
+    let proposed = hexed(heap, line, b"plan ")?;
+    Ok(proposed.map(|bytes| PlanChoice::Proposed(bytes)))
+}
+
+// The fit test of this name and its cost, if the line says them.
+fn fit_of(line: &[u8], test: TestName) -> Option<FitChoice>
+    ensures { FitOfRead line.now test result }
+{
+    let cost = numbered(line, test.word(), MOST_NUMBER)? as u32;
+    Some(FitChoice { test, cost })
 }
 
 // The fit test and its cost, if the line says them.
 pub(crate) fn fit(line: &[u8]) -> Option<FitChoice>
     ensures { FitRead line.now result }
 {
-    if let Some(cost) = numbered(line, b"fit linear ", MOST_NUMBER) {
-        return Some(FitChoice {
-            test: TestName::Linear,
-            cost: cost as u32,
-        });
-    }
-    if let Some(cost) = numbered(line, b"fit exact ", MOST_NUMBER) {
-        return Some(FitChoice {
-            test: TestName::Exact,
-            cost: cost as u32,
-        });
-    }
-    if let Some(cost) = numbered(line, b"fit either ", MOST_NUMBER) {
-        return Some(FitChoice {
-            test: TestName::Either,
-            cost: cost as u32,
-        });
-    }
-    None
+    fit_of(line, TestName::Linear)
+        .or_else(|| fit_of(line, TestName::Exact))
+        .or_else(|| fit_of(line, TestName::Either))
 }
 
 // The starting clock, if the line says one.

@@ -1,6 +1,7 @@
 // The beginning of a recorded day: its four headings, in their order.
-ghost use Rattle.std.specs.Prelude.{◌≡◌, [], drop, IfOk};
+ghost use Rattle.std.specs.Prelude.{◌≡◌, [], drop};
 ghost use Rattle.script.specs.Opening.{Opened, line_at};
+ghost use Rattle.script.specs.declared.opening.OpeningError.TheVariants.{OutOfMemory};
 ghost use Rattle.words.specs.Lines.{lines_left};
 
 use crate::headings;
@@ -9,7 +10,7 @@ use std::alloc::{AllocError, Global};
 use words::lines::Lines;
 
 // What the headings say.
-#[derive(Drop)]
+#[derive(PartialEq, Eq, Debug, Drop)]
 pub struct Headings {
     pub sheet: Vec<u8>,
     pub plan: PlanChoice,
@@ -17,13 +18,20 @@ pub struct Headings {
     pub start: u64,
 }
 
-// How the day begins.
-#[derive(Drop)]
-pub enum Opening {
-    // With the four headings.
-    Headed(Headings),
+// Why the headings were not read.
+#[derive(Clone, Copy, PartialEq, Eq, Debug)]
+pub enum OpeningError {
     // The line with this number, counted from 1, is missing or is not the heading that stands there.
     NotUnderstood(usize),
+    OutOfMemory,
+}
+
+impl From<AllocError> for OpeningError {
+    ghost from_gives = { λ _ error. error ≡ OutOfMemory };
+
+    fn from(_error: AllocError) -> OpeningError {
+        OpeningError::OutOfMemory
+    }
 }
 
 // The next line; past the last one, a blank line.
@@ -31,32 +39,23 @@ fn next_or_blank<'a>(lines: &mut Lines<'a>) -> &'a [u8]
     ensures line { result.now ≡ line_at (lines_left lines.old) 0 }
     ensures rest { lines_left lines.new ≡ drop 1 (lines_left lines.old) }
 {
-    match lines.next() {
-        Some(line) => line,
-        None => &[],
-    }
+    lines.next().unwrap_or(&[])
 }
 
 // Reads the headings.
-pub(crate) fn read_opening(heap: Global, lines: &mut Lines) -> Result<Opening, AllocError>
-    ensures { IfOk result (λ found. Opened (lines_left lines.old) found (lines_left lines.new)) }
+pub(crate) fn read_opening(heap: Global, lines: &mut Lines) -> Result<Headings, OpeningError>
+    ensures { Opened (lines_left lines.old) result (lines_left lines.new) }
 {
-    let Some(sheet) = headings::sheet(heap, next_or_blank(lines))? else {
-        return Ok(Opening::NotUnderstood(1));
-    };
-    let Some(plan) = headings::plan(heap, next_or_blank(lines))? else {
-        return Ok(Opening::NotUnderstood(2));
-    };
-    let Some(fit) = headings::fit(next_or_blank(lines)) else {
-        return Ok(Opening::NotUnderstood(3));
-    };
-    let Some(start) = headings::start(next_or_blank(lines)) else {
-        return Ok(Opening::NotUnderstood(4));
-    };
-    Ok(Opening::Headed(Headings {
+    let sheet = headings::sheet(heap, next_or_blank(lines))?;
+    let sheet = sheet.ok_or(OpeningError::NotUnderstood(1))?;
+    let plan = headings::plan(heap, next_or_blank(lines))?;
+    let plan = plan.ok_or(OpeningError::NotUnderstood(2))?;
+    let fit = headings::fit(next_or_blank(lines)).ok_or(OpeningError::NotUnderstood(3))?;
+    let start = headings::start(next_or_blank(lines)).ok_or(OpeningError::NotUnderstood(4))?;
+    Ok(Headings {
         sheet,
         plan,
         fit,
         start,
-    }))
+    })
 }

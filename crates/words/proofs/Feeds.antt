@@ -1,8 +1,11 @@
 -- The first line ends at the first line feed.
-use Rattle.std.proofs.Common.{◌≡◌, ℕ, zero, suc, ◌+◌, ◌-◌, ◌<◌, ◌≤◌, true, false, cond, eqb, List, [], ◌∷◌, length, get_or, take, drop, sym, refl, ap, ◌∙◌, arith, take_all}
+use Rattle.std.proofs.Common.{◌≡◌, ℕ, zero, suc, ◌+◌, ◌<◌, true, false, cond, eqb, List, [], ◌∷◌, length, get_or, take, drop, sym, refl, ap, ◌∙◌, ⊎_elim, Some, None, Option, arith, take_all}
 use Rattle.std.proofs.lemmas.List.{drop_all}
 use Rattle.std.proofs.lemmas.Slice.{between_to_end}
-use Rattle.std.proofs.lemmas.Bool.{eqb-true, false≢true, ne_eqb}
+use Rattle.std.proofs.lemmas.Bool.{cases_lt, eqb-true, false≢true, ne_eqb}
+use Rattle.std.specs.Borrow.{Bor}
+use Rattle.std.specs.Option.{unwrap_or}
+use Rattle.std.specs.Slice.{IsGetRangeResult}
 use Rattle.words.specs.Spelling.{EndOfLine, begun_with, lines_of}
 
 first_is_feed : (byte : ℕ) (bytes : List ℕ) → byte ≡ 10 → lines_of (byte ∷ bytes) ≡ [] ∷ lines_of bytes
@@ -35,22 +38,26 @@ pub no_line : (bytes : List ℕ) → true ≡ eqb (length bytes) 0 → lines_of 
 no_line [] empty = refl
 no_line (byte ∷ bytes) empty = absurd (let none = eqb-true (length (byte ∷ bytes)) 0 (sym empty) in omega arith)
 
--- the first line and what follows it, with its line feed and without
-pub next_fed : (bytes after : List ℕ) (end : ℕ) → EndOfLine bytes end → end < length bytes → after ≡ take (length bytes - (end + 1)) (drop (end + 1) bytes)
-    → lines_of bytes ≡ take (end - 0) bytes ∷ lines_of after
-next_fed bytes after end line within after_is =
-    let next : end + 1 ≡ suc end = omega arith in
-    let all : end - 0 ≡ end = omega arith in
-    let rest = after_is ∙ between_to_end bytes (end + 1) (length bytes) (omega arith) ∙ ap (λ n. drop n bytes) next in
-    fed_line bytes end line.before within (line.found within) ∙ ap (λ n. take n bytes ∷ lines_of (drop (suc end) bytes)) (sym all) ∙ ap (λ r. take (end - 0) bytes ∷ lines_of r) (sym rest)
-
-pub next_last : (bytes after : List ℕ) (end : ℕ) → EndOfLine bytes end → 0 < length bytes → length bytes ≤ end → after ≡ take (length bytes - end) (drop end bytes)
-    → lines_of bytes ≡ take (end - 0) bytes ∷ lines_of after
-next_last bytes after end line some past after_is =
-    let all : length bytes ≤ end - 0 = omega arith in
-    let rest = after_is ∙ between_to_end bytes end (length bytes) (omega arith) ∙ drop_all end bytes past in
-    last_line bytes some (λ k below. line.before k (omega arith)) ∙ ap (λ l. l ∷ []) (sym (take_all (end - 0) bytes all)) ∙ ap (λ r. take (end - 0) bytes ∷ lines_of r) (sym rest)
-
 pub some_bytes : (bytes : List ℕ) → false ≡ eqb (length bytes) 0 → 0 < length bytes
 some_bytes [] empty = absurd (false≢true empty)
 some_bytes (byte ∷ bytes) empty = omega arith
+
+-- the first line and what follows it, with its line feed or without one
+pub next_line : (bytes after : List ℕ) (end : ℕ) → EndOfLine bytes end → false ≡ eqb (length bytes) 0 → after ≡ drop (end + 1) bytes
+    → lines_of bytes ≡ take end bytes ∷ lines_of after
+next_line bytes after end line some after_is =
+    let next : end + 1 ≡ suc end = omega arith in
+    let left = ap lines_of (after_is ∙ ap (λ n. drop n bytes) next) in
+    ⊎_elim
+    (λ within. fed_line bytes end line.before within (line.found within) ∙ ap (λ ls. take end bytes ∷ ls) (sym left))
+    (λ past.
+    last_line bytes (some_bytes bytes some) (λ k below. line.before k (omega arith))
+    ∙ ap (λ l. l ∷ []) (sym (take_all end bytes past))
+    ∙ ap (λ ls. take end bytes ∷ ls) (sym (left ∙ ap lines_of (drop_all (suc end) bytes (omega arith)))))
+    (cases_lt end (length bytes))
+
+-- what follows a place, where nothing stands past the end
+pub part_from : (bytes : List ℕ) (n : ℕ) (found : Option (Bor (List ℕ))) (other : Bor (List ℕ)) → IsGetRangeResult bytes n (length bytes) found → other.now ≡ []
+    → (unwrap_or found other).now ≡ drop n bytes
+part_from bytes n (Some part) other there none = there.0.2 ∙ between_to_end bytes n (length bytes) (omega arith)
+part_from bytes n None other there none = none ∙ sym (drop_all n bytes (⊎_elim (λ past. omega arith) (λ no. absurd (omega arith)) there.0))

@@ -1,5 +1,6 @@
 -- The value of digits grows with each digit.
-use Rattle.std.proofs.Common.{◌≡◌, ℕ, zero, suc, ◌+◌, ◌*◌, ◌<◌, ◌≤◌, ◌⊎◌, List, [], ◌∷◌, length, get_or, take, sym, ap, ◌∙◌, subst, inl, inr, arith, take_all}
+use Rattle.std.proofs.Common.{◌≡◌, ℕ, zero, suc, ◌+◌, ◌*◌, ◌<◌, ◌≤◌, List, [], ◌∷◌, length, get_or, take, ⊎_elim, arith}
+use Rattle.std.proofs.lemmas.Bool.{cases_lt}
 use Rattle.std.specs.Str.Parse.{AllDigits, digits_value, digits_value_after}
 use Rattle.std.specs.Char.{digit_value}
 use Rattle.std.proofs.lemmas.Int.Digits.{digits_value_more}
@@ -23,19 +24,12 @@ digit_at (byte ∷ bytes) zero all below = all.0
 digit_at (byte ∷ bytes) (suc k) all below = digit_at bytes k all.1 (omega arith)
 
 -- what is no digit, or passes the most, ends the search for a number
-pub number-stops : (bytes : List ℕ) (k most : ℕ) → k < length bytes
-    → ((10 ≤ digit_value (get_or bytes k 0)) ⊎ (most < digits_value 10 (take k bytes) * 10 + digit_value (get_or bytes k 0)))
+pub number-stops : (bytes : List ℕ) (k value most : ℕ) → k < length bytes → value ≡ digits_value 10 (take k bytes)
+    → ¬ ((digit_value (get_or bytes k 0) < 10) × (value * 10 + digit_value (get_or bytes k 0) ≤ most))
     → (n : ℕ) → Number bytes n → most < n
-number-stops bytes k most inside (inl no_digit) n number =
-    let digit = digit_at bytes k number.digits inside in absurd (omega arith)
-number-stops bytes k most inside (inr over) n number =
+number-stops bytes k value most inside value_is stopped n number =
+    let digit = digit_at bytes k number.digits inside in
     let front = value_of_front bytes (k + 1) 0 in
     let more = digits_value_more 10 bytes k inside in
     let whole = number.value_is in
-    omega arith
-
--- where every byte was a digit, there is a number
-pub found_number : (bytes : List ℕ) (k n : ℕ) → length bytes ≤ k → 0 < length bytes → AllDigits 10 (take k bytes) → n ≡ digits_value 10 (take k bytes) → Number bytes n
-found_number bytes k n all some digits value_is =
-    let whole = take_all k bytes all in
-    record { some = some; digits = subst (AllDigits 10) whole digits; value_is = sym (value_is ∙ ap (digits_value 10) whole) }
+    ⊎_elim (λ over. over) (λ within. absurd (stopped (digit, omega arith))) (cases_lt most n)

@@ -1,5 +1,5 @@
 -- What is left to read of a text, as lines.
-use Rattle.std.specs.Prelude.{◌≡◌, ℕ, List, [], ◌∷◌, Some, None, Option}
+use Rattle.std.specs.Prelude.{◌≡◌, ℕ, List, [], ◌∷◌, Option, MatchOption}
 use Rattle.std.specs.Borrow.{Bor}
 use Rattle.words.specs.Spelling.{lines_of}
 use Rattle.words.specs.declared.lines.Lines.{Lines}
@@ -9,5 +9,4 @@ lines_left lines = lines_of lines.rest.now
 
 -- The first of these lines was handed out, and these are left.
 abbrev pub NextLine : List (List ℕ) → Option (Bor (List ℕ)) → List (List ℕ) → Type 0
-NextLine before (Some line) after = before ≡ line.now ∷ after
-NextLine before None after = (before ≡ []) × (after ≡ [])
+NextLine before found after = MatchOption found ((before ≡ []) × (after ≡ [])) (λ line. before ≡ line.now ∷ after)

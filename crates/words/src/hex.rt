@@ -1,25 +1,39 @@
 // Bytes spelt as pairs of hexadecimal digits.
-ghost use Rattle.std.specs.Prelude.{IfOk};
-ghost use Rattle.words.specs.Spelling.{HexRead, HexedRead};
+ghost use Rattle.std.specs.Prelude.{IfOk, ◌<◌, SomeIff, MatchOption, ℕ};
+ghost use Rattle.std.specs.Char.{digit_value};
+ghost use Rattle.words.specs.Spelling.{HexRead, HexedRead, Pair};
 
 use crate::number::{after, digit_value};
 use std::alloc::{AllocError, Global};
+
+// The value of a hexadecimal digit.
+fn hex_digit(byte: u8) -> Option<u8>
+    ensures { SomeIff result (digit_value byte < 16) (digit_value byte) }
+{
+    digit_value(byte).filter(|digit| *digit < 16)
+}
+
+// The byte that two digits spell, if both are hexadecimal.
+fn pair(high: u8, low: u8) -> Option<u8>
+    ensures { MatchOption result ((byte : ℕ) → Pair high low byte → ⊥) (Pair high low) }
+{
+    Some(16 * hex_digit(high)? + hex_digit(low)?)
+}
 
 // The bytes that the text spells, if it spells any.
 pub fn hex(heap: Global, text: &[u8]) -> Result<Option<Vec<u8>>, AllocError>
     ensures { IfOk result (HexRead text.now) }
 {
-    if text.len() % 2 != 0 {
+    let (pairs, rest) = text.as_chunks::<2>();
+    if !rest.is_empty() {
         return Ok(None);
     }
     let mut bytes = Vec::new(heap);
-    for k in 0..text.len() / 2 {
-        let high = digit_value(text[2 * k]);
-        let low = digit_value(text[2 * k + 1]);
-        if high >= 16 || low >= 16 {
+    for [high, low] in pairs {
+        let Some(byte) = pair(*high, *low) else {
             return Ok(None);
-        }
-        bytes.push(16 * high + low)?;
+        };
+        bytes.push(byte)?;
     }
     Ok(Some(bytes))
 }
@@ -28,8 +42,8 @@ pub fn hex(heap: Global, text: &[u8]) -> Result<Option<Vec<u8>>, AllocError>
 pub fn hexed(heap: Global, line: &[u8], word: &[u8]) -> Result<Option<Vec<u8>>, AllocError>
     ensures { IfOk result (HexedRead line.now word.now) }
 {
-    match after(line, word) {
-        Some(digits) => hex(heap, digits),
-        None => Ok(None),
-    }
+    let Some(digits) = after(line, word) else {
+        return Ok(None);
+    };
+    hex(heap, digits)
 }

@@ -1,4 +1,5 @@
 // The lines of a text, one after the other.
+ghost use Rattle.std.specs.Iterator.{item_count};
 ghost use Rattle.std.specs.Prelude.{◌≡◌};
 ghost use Rattle.words.specs.Lines.{lines_left, NextLine};
 ghost use Rattle.words.specs.Spelling.{EndOfLine, TextIsItsLines, lines_of};
@@ -9,15 +10,12 @@ const LINE_FEED: u8 = b'\n';
 fn line_end(text: &[u8]) -> usize
     ensures { EndOfLine text.now result }
 {
-    for (i, byte) in text.iter().enumerate() {
-        if *byte == LINE_FEED {
-            return i;
-        }
-    }
-    text.len()
+    text.iter()
+        .position(|byte| *byte == LINE_FEED)
+        .unwrap_or(text.len())
 }
 
-// What is left to read of a text.
+// What is left to read of a text. A copy reads the same lines again.
 #[derive(Clone, Copy)]
 pub struct Lines<'a> {
     rest: &'a [u8],
@@ -30,22 +28,25 @@ impl<'a> Lines<'a> {
     {
         Lines { rest: text }
     }
+}
+
+impl<'a> Iterator for Lines<'a> {
+    type Item = &'a [u8];
+
+    ghost next_gives = { λ before line after. NextLine (lines_left before) line (lines_left after) };
+
+    ghost remaining = { item_count lines_left };
 
     // The next line without its line feed, or none where all were read.
-    pub fn next(&mut self) -> Option<&'a [u8]>
-        ensures { NextLine (lines_left self.old) result (lines_left self.new) }
-    {
+    fn next(&mut self) -> Option<&'a [u8]> {
         let rest = self.rest;
         if rest.is_empty() {
             return None;
         }
         let end = line_end(rest);
-        if end < rest.len() {
-            self.rest = &rest[end + 1..];
-        } else {
-            self.rest = &rest[end..];
-        }
-        Some(&rest[0..end])
+        // Nothing is left where no line feed ends the line.
+        self.rest = rest.get(end + 1..).unwrap_or(&[]);
+        Some(&rest[..end])
     }
 }
 

@@ -1,18 +1,27 @@
 // Words and numbers in a line.
-ghost use Rattle.std.specs.Prelude.{◌≡◌, ℕ, List, ◌++◌, Decides, MatchOption, ◌≢◌};
+ghost use Rattle.std.specs.Prelude.{◌≡◌, ◌+◌, ◌*◌, ◌<◌, ◌≤◌, ℕ, List, ◌++◌, Decides, MatchOption, SomeIff, ◌≢◌};
 ghost use Rattle.std.specs.Char.{digit_value};
 ghost use Rattle.words.specs.Spelling.{NumberRead, NumberedRead};
 
-// The value of a digit, where letters of either case go on from 9; 36 for what is neither.
-pub fn digit_value(byte: u8) -> u8
-    ensures { result ≡ digit_value byte }
+// The value of a digit, where letters of either case go on from 9, if the byte is either.
+pub fn digit_value(byte: u8) -> Option<u8>
+    ensures { SomeIff result (digit_value byte < 36) (digit_value byte) }
 {
     match byte {
-        b'0'..=b'9' => byte - b'0',
-        b'A'..=b'Z' => byte - b'A' + 10,
-        b'a'..=b'z' => byte - b'a' + 10,
-        _ => 36,
+        b'0'..=b'9' => Some(byte - b'0'),
+        b'A'..=b'Z' => Some(byte - b'A' + 10),
+        b'a'..=b'z' => Some(byte - b'a' + 10),
+        _ => None,
     }
+}
+
+// The value of a decimal number after one more digit, if the byte is one and the value is still at most `most`.
+fn with_digit(value: u64, byte: u8, most: u64) -> Option<u64>
+    ensures { SomeIff result ((digit_value byte < 10) × (value * 10 + digit_value byte ≤ most)) (value * 10 + digit_value byte) }
+{
+    let digit = digit_value(byte).filter(|digit| *digit < 10)?;
+    let next = value.checked_mul(10)?.checked_add(u64::from(digit))?;
+    (next <= most).then_some(next)
 }
 
 // The number that the bytes spell, if they spell one and it is at most `most`.
@@ -22,29 +31,21 @@ pub fn number(bytes: &[u8], most: u64) -> Option<u64>
     if bytes.is_empty() {
         return None;
     }
-    let mut value = 0u64;
+    let mut value = 0;
     for byte in bytes {
-        let digit = digit_value(*byte);
-        if digit >= 10 {
-            return None;
-        }
-        let next = value as u128 * 10 + digit as u128;
-        if next > most as u128 {
-            return None;
-        }
-        value = next as u64;
+        value = with_digit(value, *byte, most)?;
     }
     Some(value)
 }
 
-// Whether the line is this word.
+// Whether the line is this word. It is `==`, told as a fact of the two lists and not of their elements.
 pub fn is_word(line: &[u8], word: &[u8]) -> bool
     ensures { Decides result (line.now ≡ word.now) }
 {
     line == word
 }
 
-// What follows the word in the line, if the line begins with it.
+// What follows the word in the line, if the line begins with it. It is `strip_prefix`, told as a fact of the whole line.
 pub fn after<'a>(line: &'a [u8], word: &[u8]) -> Option<&'a [u8]>
     ensures { MatchOption result ((rest : List ℕ) → line.now ≢ word.now ++ rest) (λ rest. line.now ≡ word.now ++ rest.now) }
 {
@@ -55,6 +56,5 @@ pub fn after<'a>(line: &'a [u8], word: &[u8]) -> Option<&'a [u8]>
 pub fn numbered(line: &[u8], word: &[u8], most: u64) -> Option<u64>
     ensures { NumberedRead line.now word.now most result }
 {
-    let digits = after(line, word)?;
-    number(digits, most)
+    number(after(line, word)?, most)
 }

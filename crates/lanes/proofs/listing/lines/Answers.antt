@@ -19,8 +19,3 @@ loop-task-preserved c = (
       ∙ append_assoc (vec_items c.args.text.now) grown (line (get_or entries k no_entry).name)
       ∙ ap (λ n. vec_items c.args.text.now ++ task_lines plan entries n) next,
 )
-
-pub returns : goal.returns
-returns c = λ grid lanes entries spells long.
-    let all : c.loop-task.task ≡ length c.args.plan.now = omega arith in
-    c.loop-task.invariant.1 grid lanes entries spells long ∙ ap (λ n. vec_items c.args.text.now ++ task_lines c.args.plan.now entries n) all

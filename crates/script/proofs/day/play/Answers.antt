@@ -11,6 +11,6 @@ returns-in_ok-place-in-Auto g c =
     let yes_to = g.F.FitTest.yes c.args.test.now in
     let list = c.args.list.now in
     let room = c.place.new.plan in
-    performed yes_to list.lanes (tasks_of list) (proposed c.args.plan.now) room c.args.start (view c.new-board.result) c.args.entries.now c.perform.result (view c.perform.new.board) c.perform.new.entries
+    performed yes_to list.lanes (tasks_of list) (proposed c.args.headings.now.plan) room c.args.headings.now.start (view c.new-board.result) c.args.entries.now c.perform.result (view c.perform.new.board) c.perform.new.entries
     (subst (λ p. Chosen yes_to list.lanes (tasks_of list) (proposed p) room) (sym c.in-Auto.is) c.in_ok-place-in-Auto.ensures.0)
     c.perform.ensures

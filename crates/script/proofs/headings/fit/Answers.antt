@@ -1,5 +1,6 @@
-use Rattle.script.proofs.Tests.{no_test}
+use Rattle.std.proofs.Common.{rules}
+use Rattle.script.proofs.Tests.{first_named}
 use Rattle.script.proofs.headings.fit.Goals as goal
 
 pub returns : goal.returns
-returns c = no_test c.args.line.now c.in_default.ensures c.in_default-numbered.ensures c.in_default-numbered-2.ensures
+returns c = first_named c.args.line.now c.fit_of.result c.or_else.result c.or_else-2.result c.fit_of.ensures (search rules) (search rules)

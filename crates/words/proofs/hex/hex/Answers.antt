@@ -1,16 +1,20 @@
-use Rattle.std.proofs.Common.{vec_items, sym, ◌∙◌, arith}
-use Rattle.std.proofs.lemmas.Result.{IfOk-from_err}
-use Rattle.words.specs.Spelling.{HexRead}
-use Rattle.words.proofs.Pairs.{pairs-more}
+use Rattle.std.proofs.Common.{◌<◌, length, get_or, ◌/◌, vec_items, sym, ◌∙◌, arith}
+use Rattle.words.proofs.Pairs.{digits_of_chunk, pairs-more}
 use Rattle.words.proofs.hex.hex.Goals as goal
 
-pub returns-in_err-push : goal.returns-in_err-push
-returns-in_err-push c =
-    IfOk-from_err c.from_residual.result (HexRead c.args.text.now) c.from_residual.ensures.0
+pub returns-in_default : goal.returns-in_default
+returns-in_default c = λ bytes hex.
+    let k = c.loop-high.high-index in
+    let below : k < length c.args.text.now / 2 = omega (arith, c.as_chunks.ensures.front_len) in
+    let digits = digits_of_chunk c.args.text.now c.as_chunks.result.0.now k c.as_chunks.ensures.front below in
+    c.in_default.ensures (get_or bytes k 0) (rw digits.0 (rw digits.1 (hex.pairs k (omega (arith, hex.long)))))
 
-pub loop-k-preserved : goal.loop-k-preserved
-loop-k-preserved c = (
-  omega (arith, c.in_ok-push.ensures.len),
-  pairs-more c.args.text.now (vec_items c.loop-k.bytes) (vec_items c.push.new.self) c.loop-k.k _ (sym c.loop-k.bytes.ok.0 ∙ c.loop-k.invariant.0) c.in_ok-push.ensures.items c.loop-k.invariant.1
-      (record { high_digit = omega (arith, c.digit_value-high.ensures); low_digit = omega (arith, c.digit_value-low.ensures); byte_is = omega (arith, c.digit_value-high.ensures, c.digit_value-low.ensures) }),
-)
+pub loop-high-preserved : goal.loop-high-preserved
+loop-high-preserved c =
+    let k = c.loop-high.high-index in
+    let below : k < length c.args.text.now / 2 = omega (arith, c.as_chunks.ensures.front_len) in
+    let digits = digits_of_chunk c.args.text.now c.as_chunks.result.0.now k c.as_chunks.ensures.front below in (
+      omega (arith, c.in_ok-push.ensures.len),
+      pairs-more c.args.text.now (vec_items c.loop-high.bytes) (vec_items c.push.new.self) k _ (sym c.loop-high.bytes.ok.0 ∙ c.loop-high.invariant.0) c.in_ok-push.ensures.items c.loop-high.invariant.1
+          (rw (← digits.0) (rw (← digits.1) c.in-Some.ensures)),
+    )

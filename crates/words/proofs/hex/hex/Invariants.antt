@@ -2,6 +2,6 @@ use Rattle.std.proofs.Common.{◌≡◌, ℕ, ◌+◌, ◌*◌, ◌<◌, get_or,
 use Rattle.words.specs.Spelling.{Pair}
 use Rattle.words.proofs.hex.hex.Given as goal
 
-abbrev pub invariant-loop-k : goal.invariant-loop-k
-invariant-loop-k l =
-    (vec_len l.bytes ≡ l.k) × ((j : ℕ) → j < l.k → Pair (get_or l.text (2 * j) 0) (get_or l.text (2 * j + 1) 0) (get_or (vec_items l.bytes) j 0))
+abbrev pub invariant-loop-high : goal.invariant-loop-high
+invariant-loop-high l =
+    (vec_len l.bytes ≡ l.high-index) × ((j : ℕ) → j < l.high-index → Pair (get_or l.text (2 * j) 0) (get_or l.text (2 * j + 1) 0) (get_or (vec_items l.bytes) j 0))
