@@ -7,7 +7,6 @@ ghost use Rattle.fit.specs.Lane.{unreleased};
 ghost use Rattle.plan.specs.Placing.{lane_of};
 ghost use Rattle.std.specs.Option.{unwrap_or};
 
-use crate::release::Release;
 use crate::seats::Seats;
 use crate::task_queue::TaskQueue;
 use queue::Full;
@@ -78,7 +77,7 @@ impl Jobs {
         seats: &Seats,
         number: usize,
         clock: u64,
-    ) -> Result<(), Full<Release>>
+    ) -> Result<(), Full<u64>>
         requires inside { number < length (tasks_on seats.now) }
         requires in_time { clock ≤ clock_end }
         requires no_later { unwrap_or (stands_at (map standing self.old.queues) number).last 0 ≤ clock }
