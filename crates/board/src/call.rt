@@ -2,7 +2,7 @@
 use crate::fault::BoardFault;
 
 // What a board is asked.
-#[derive(Clone, Copy)]
+#[derive(Clone, Copy, Debug, PartialEq, Eq)]
 pub enum Call {
     // Take a job of this task.
     Post(usize),
@@ -19,7 +19,7 @@ pub enum Call {
 }
 
 // What a board answers. Not a Result: it is the record of one call of a day, and the definitions range over such records.
-#[derive(Clone, Copy)]
+#[derive(Clone, Copy, Debug, PartialEq, Eq)]
 pub enum Answer {
     // The job was taken: the clock by which it will be closed.
     Posted(u64),
@@ -38,7 +38,7 @@ pub enum Answer {
 }
 
 // A call, and the place for its answer.
-#[derive(Clone, Copy)]
+#[derive(Clone, Copy, Debug, PartialEq, Eq)]
 pub struct Entry {
     pub call: Call,
     pub answer: Option<Answer>,

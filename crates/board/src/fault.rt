@@ -9,7 +9,7 @@ use sheet::fault::Layer;
 use tasks::fault::ListFault;
 
 // Why a board refuses a call. `Codes` in specs/ gives each case its number and its place.
-#[derive(Clone, Copy)]
+#[derive(Clone, Copy, Debug, PartialEq, Eq)]
 pub enum BoardFault {
     // A fault of the plan layer or of one below it.
     Plan(PlanFault),

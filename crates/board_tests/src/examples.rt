@@ -18,14 +18,10 @@ fn refused<T: Drop>(
     number: u32,
     place: u64,
 ) -> Result<(), Fail> {
-    match answer {
-        Ok(_) => Err(Fail::new("accepted")),
-        Err(fault) => {
-            assert_eq!(rt; fault.number(), number);
-            assert_eq!(rt; fault.place(), place);
-            Ok(())
-        }
-    }
+    let fault = answer.err().ok_or("accepted")?;
+    assert_eq!(rt; fault.number(), number);
+    assert_eq!(rt; fault.place(), place);
+    Ok(())
 }
 
 // The office's tasks on two lanes: lock, journal, and one without a name.
@@ -69,10 +65,10 @@ fn a_board_that_no_set_up_has_filled(rt: HostRuntime) -> Result<(), Fail> {
     refused(&rt, board.waiting(0), 13, 0)?;
     refused(&rt, board.post(0), 13, 0)?;
     refused(&rt, board.serving(0), 17, 0)?;
-    assert!(rt; matches!(board.begin(), Ok(0)));
-    assert!(rt; matches!(board.serving(0), Ok(None)));
+    assert_eq!(rt; board.begin(), Ok(0));
+    assert_eq!(rt; board.serving(0), Ok(None));
     refused(&rt, board.serving(1), 11, 1)?;
-    assert!(rt; matches!(board.end(0), Ok(0)));
+    assert_eq!(rt; board.end(0), Ok(0));
     assert_eq!(rt; board.clock(), 1);
     Ok(())
 }
@@ -90,7 +86,7 @@ fn the_clocks_end(rt: HostRuntime) -> Result<(), Fail> {
         CLOCK_END + 1,
     )?;
     refused(&rt, set_up(&mut board, &[0, 0], CLOCK_END + 1), 10, 2)?;
-    assert!(rt; matches!(board.waiting(0), Ok(1)));
+    assert_eq!(rt; board.waiting(0), Ok(1));
     Ok(())
 }
 
@@ -98,17 +94,17 @@ fn the_clocks_end(rt: HostRuntime) -> Result<(), Fail> {
 fn codes_come_in_their_order(rt: HostRuntime) -> Result<(), Fail> {
     let mut board = Board::new();
     assert!(rt; set_up(&mut board, &[0, 0, 1], 0).is_ok());
-    assert!(rt; matches!(board.post(1), Ok(4)));
+    assert_eq!(rt; board.post(1), Ok(4));
     refused(&rt, board.post(1), 14, 5)?;
     refused(&rt, board.end(0), 17, 0)?;
-    assert!(rt; matches!(board.begin(), Ok(1)));
+    assert_eq!(rt; board.begin(), Ok(1));
     refused(&rt, board.begin(), 16, 0)?;
     refused(&rt, board.post(0), 16, 0)?;
     refused(&rt, board.post(3), 13, 3)?;
     refused(&rt, board.end(2), 18, 1)?;
     refused(&rt, board.end(128), 18, 7)?;
-    assert!(rt; matches!(board.serving(0), Ok(Some(1))));
-    assert!(rt; matches!(board.end(0), Ok(1)));
+    assert_eq!(rt; board.serving(0), Ok(Some(1)));
+    assert_eq!(rt; board.end(0), Ok(1));
     assert_eq!(rt; board.clock(), 1);
     Ok(())
 }

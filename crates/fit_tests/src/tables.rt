@@ -119,14 +119,10 @@ fn bounds(rt: HostRuntime) -> Result<(), Fail> {
 
 // The number and the place of a refusal.
 fn refused<T: Drop>(rt: &impl Abort, test: Result<T, ListFault>, place: usize) -> Result<(), Fail> {
-    match test {
-        Ok(_) => Err(Fail::new("a setting that is not refused")),
-        Err(fault) => {
-            assert_eq!(rt; fault.number(), 7);
-            assert_eq!(rt; fault.place(), place);
-            Ok(())
-        }
-    }
+    let fault = test.err().ok_or("a setting that is not refused")?;
+    assert_eq!(rt; fault.number(), 7);
+    assert_eq!(rt; fault.place(), place);
+    Ok(())
 }
 
 #[test]

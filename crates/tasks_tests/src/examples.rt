@@ -39,14 +39,10 @@ fn refused(
     number: u32,
     place: usize,
 ) -> Result<(), Fail> {
-    match answer {
-        Ok(()) => Err(Fail::new("accepted")),
-        Err(fault) => {
-            assert_eq!(rt; fault.number(), number);
-            assert_eq!(rt; fault.place(), place);
-            Ok(())
-        }
-    }
+    let fault = answer.err().ok_or("accepted")?;
+    assert_eq!(rt; fault.number(), number);
+    assert_eq!(rt; fault.place(), place);
+    Ok(())
 }
 
 // The bytes are refused with this number and place, and the list stays as it was.
