@@ -1,5 +1,5 @@
 // What `lanes` prints for a sheet, as a function of its bytes.
-ghost use Rattle.std.specs.Prelude.{◌≡◌, length, IfOk, OnOk};
+ghost use Rattle.std.specs.Prelude.{length, IfOk, OnOk};
 ghost use Rattle.lanes.specs.Listing.{Listing, ListingIsSettled};
 ghost use Rattle.lanes.specs.Steps.{BlockAdded, LinesAdded, NameThere, ReadTextAdded};
 
@@ -35,7 +35,8 @@ fn lines(text: &mut Vec<u8>, plan: &[u8], sheet: &[u8]) -> io::Result<()>
     Ok(())
 }
 
-// Adds a block: the heading, and a line for each task as the test places it, or for the task that finds no lane.
+// Adds a block: the heading, and a line for each task as the test places it, or for the task that finds no lane. A struct of the
+// list and its sheet, which two functions take, would say no more.
 fn block<F: FitTest>(
     text: &mut Vec<u8>,
     heading: &[u8],
@@ -53,20 +54,13 @@ fn block<F: FitTest>(
     lines(text, plan.as_slice(), sheet)
 }
 
-// The linear test over the list's grid.
-fn linear_over(list: &TaskList) -> Linear
-    ensures { result.grid ≡ list.now.grid }
-{
-    // A list's grid is in a test's range.
-    Linear::new(list.grid()).unwrap()
-}
-
 // Adds what is printed for a list that was read.
 fn read_text(text: &mut Vec<u8>, list: &TaskList, sheet: &[u8]) -> io::Result<()>
     ensures { OnOk result (ReadTextAdded sheet.now list.now text.old.items text.new.items) }
 {
     summary(text, list.len(), list.lanes(), list.grid())?;
-    let linear = linear_over(list);
+    // A list's grid is in a test's range.
+    let linear = Linear::new(list.grid()).unwrap();
     block(text, b"linear\n", &linear, list, sheet)?;
     let either = Either {
         first: linear,
