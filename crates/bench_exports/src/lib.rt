@@ -51,7 +51,7 @@ fn place_either(sheet: &[u8], plan: &mut [u8]) -> Result<(), PlanFault>
 }
 
 // Asks the exact test about the last task of a sheet over those before it: 0 for yes, 12 for no, 13 for no task.
-// The numbers are C's: no fault says that a list has no task or that the answer is no, so no inner call gives a Result.
+// Numbers for C, and no fault whole: a test's no is no fault, and the faults with these numbers tell of a lane and of a call.
 #[unsafe(no_mangle)]
 pub extern "C" fn bench_ask_exact(sheet: &[u8]) -> u32
     ensures { AskedExact sheet.now result }

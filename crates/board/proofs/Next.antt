@@ -99,10 +99,10 @@ module _ (plan : List ℕ) (lane : ℕ) where
 each_turn_inside : (tasks : List TaskRecord) → AllByRecursion (λ m. m < length tasks) (order tasks)
 each_turn_inside tasks = All-from_get_or (λ m. m < length tasks) (order tasks) 0 (λ i l. turn-within tasks i (omega (arith, length-order tasks)))
 
-pub turn_inside : (tasks : List TaskRecord) (ns : List ℕ) (k n : ℕ) → ns ≡ order tasks → k < length ns → n ≡ get_or ns k n → n < length tasks
-turn_inside tasks ns k n is h e =
-    subst (λ (x : ℕ). x < length tasks) (sym (e ∙ ap (λ (xs : List ℕ). get_or xs k n) is))
-    (All-get_or (λ m. m < length tasks) (order tasks) k n (omega (arith, ap length is)) (each_turn_inside tasks))
+pub turn_inside : (tasks : List TaskRecord) (ns : List ℕ) (k d : ℕ) → ns ≡ order tasks → k < length ns → get_or ns k d < length tasks
+turn_inside tasks ns k d is h =
+    subst (λ (xs : List ℕ). get_or xs k d < length tasks) (sym is)
+    (All-get_or (λ m. m < length tasks) (order tasks) k d (omega (arith, ap length is)) (each_turn_inside tasks))
 
 first_part : (P Q : ℕ → Type 0) (o : Option ℕ) → IfSome o (λ n. P n × Q n) → IfSome o P
 first_part P Q None h = tt

@@ -51,15 +51,16 @@ impl Jobs {
         *self.next.get(lane)?
     }
 
-    // The first task in order on the lane with a job that waits.
+    // The first task in order on the lane with a job that waits. A loop: with `find` a slot took 6 % longer (docs/BENCHMARKS.md).
     fn first_waiting(&self, seats: &Seats, lane: usize) -> Option<usize>
         ensures { result ≡ next_task (tasks_on seats.now) (plan_of seats.now) (map standing self.now.queues) lane }
     {
-        seats
-            .order()
-            .iter()
-            .copied()
-            .find(|&number| self.waits_on(seats, lane, number))
+        for &number in seats.order() {
+            if self.waits_on(seats, lane, number) {
+                return Some(number);
+            }
+        }
+        None
     }
 
     // Whether the task sits on the lane and has a job that waits.

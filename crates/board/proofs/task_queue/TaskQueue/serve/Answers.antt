@@ -1,5 +1,6 @@
 -- The first job goes on, or it closes and the next is first; where none waits nothing changes.
-use Rattle.std.proofs.Common.{◌≡◌, ◌+◌, Bool, true, false, ◌||◌, leb, refl, ap, ◌∙◌, arith}
+use Rattle.std.proofs.Common.{◌≡◌, ◌+◌, true, false, ◌||◌, leb, ap, ◌∙◌, arith}
+use Rattle.std.proofs.lemmas.Bool.{or_left, or_right}
 use Rattle.std.proofs.lemmas.Bool.Decides.{nat_tests}
 use Rattle.board.specs.Queues.{standing}
 use Rattle.queue.proofs.Alike.{is_lt-number, take_alike}
@@ -32,10 +33,6 @@ returns-then-self-saturating_sub c =
           record { closed = r.0; after = ap standing w.self-is ∙ r.1 }
     ]
 
-either_true : {b : Bool} (a : Bool) → b ≡ true → a || b ≡ true
-either_true true e = refl
-either_true false e = e
-
 pub invariant_of-self-2-clause-no_later : goal.invariant_of-self-2-clause-no_later
 invariant_of-self-2-clause-no_later c =
     none_later_left c.args.self.now.last c.args.self.now.places c.args.self.now.no_later c.take.result c.take.new.places (take_alike is_lt-number _ _ _ c.take.ensures)
@@ -48,8 +45,8 @@ returns c =
     elim c.else-not-said.branch [
       | else-not-said-via-then-not-said+else-self-saturating_sub w ↦
           let less : leb c.args.task.work (q.served + 1) ≡ true = grind (arith, nat_tests, w.if-self-saturating_sub.false, w.saturating_sub.ensures) in
-          either_true c.args.said less
-      | else-not-said-via-else-not-said w ↦ ap (λ b. b || leb c.args.task.work (q.served + 1)) w.if-not-said.false
+          or_right c.args.said (leb c.args.task.work (q.served + 1)) less
+      | else-not-said-via-else-not-said w ↦ or_left c.args.said (leb c.args.task.work (q.served + 1)) w.if-not-said.false
     ] in
     let r = slot_ends c.args.task c.args.said q.last q.served closes q.places c.take.result c.take.new.places (take_alike is_lt-number _ _ _ c.take.ensures) in
     record { closed = c.is_some.ensures ∙ r.0; after = r.1 }
