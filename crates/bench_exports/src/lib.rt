@@ -3,7 +3,6 @@
 
 ghost use Rattle.std.specs.Prelude.{◌≡◌};
 ghost use Rattle.bench_exports.specs.Measured.{AskedExact, PlacedEither, code_of};
-ghost use Rattle.tasks.specs.Task.{GridRange};
 
 use fit::either::Either;
 use fit::exact::Exact;
@@ -15,17 +14,12 @@ use tasks::list::TaskList;
 
 pub mod play;
 
-// The linear test over this grid, or else the exact one.
-pub(crate) fn either_over(grid: u32) -> Either<Linear, Exact>
-    requires { GridRange grid }
-    ensures { result.first.grid ≡ grid }
+// The linear test over the list's grid, or else the exact one.
+pub(crate) fn either_over(list: &TaskList) -> Either<Linear, Exact>
+    ensures { result.first.grid ≡ list.now.grid }
 {
-    let Ok(linear) = Linear::new(grid) else {
-        // A list's grid is in a test's range.
-        unreachable()
-    };
     Either {
-        first: linear,
+        first: Linear::over(list),
         second: Exact,
     }
 }
@@ -47,7 +41,7 @@ fn place_either(sheet: &[u8], plan: &mut [u8]) -> Result<(), PlanFault>
 {
     let mut list = TaskList::new();
     list.read(sheet)?;
-    place(&list, &either_over(list.grid()), plan)
+    place(&list, &either_over(&list), plan)
 }
 
 // Asks the exact test about the last task of a sheet over those before it: 0 for yes, 12 for no, 13 for no task.

@@ -100,7 +100,7 @@ fn play_sheet(
     let mut list = TaskList::new();
     list.read(sheet)?;
     let mut board = Board::new();
-    prepare(&mut board, sheet, plan, start, &either_over(list.grid()))?;
+    prepare(&mut board, sheet, plan, start, &either_over(&list))?;
     play(&mut board, lines);
     Ok(())
 }

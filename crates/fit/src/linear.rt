@@ -11,6 +11,7 @@ ghost use Rattle.fit.specs.Laws.{linear_safe};
 use crate::askable::Question;
 use crate::question::FitTest;
 use tasks::fault::{ListFault, Setting};
+use tasks::list::TaskList;
 use tasks::record::TaskRecord;
 use tasks::task::WIDEST_GRID;
 
@@ -31,6 +32,13 @@ impl Linear {
         } else {
             Err(ListFault::OutOfRange(Setting::Grid))
         }
+    }
+
+    // The test over a list's grid, which is always in a test's range.
+    pub fn over(list: &TaskList) -> Linear
+        ensures { result.grid ≡ list.now.grid }
+    {
+        Linear { grid: list.grid() }
     }
 
     // The grid that the test holds.

@@ -30,11 +30,7 @@ fn install(sheet: &[u8], plan: &mut [u8]) -> Result<(), PlanFault>
     if plan.len() < count {
         return Err(PlanFault::PlanLength(plan.len()));
     }
-    let Ok(test) = Linear::new(list.grid()) else {
-        // A list's grid is in a test's range.
-        unreachable()
-    };
-    place(&list, &test, &mut plan[0..count])
+    place(&list, &Linear::over(&list), &mut plan[0..count])
 }
 
 // The call has one answer: at most one number, and one content of the buffer.

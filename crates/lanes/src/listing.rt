@@ -59,8 +59,7 @@ fn read_text(text: &mut Vec<u8>, list: &TaskList, sheet: &[u8]) -> io::Result<()
     ensures { OnOk result (ReadTextAdded sheet.now list.now text.old.items text.new.items) }
 {
     summary(text, list.len(), list.lanes(), list.grid())?;
-    // A list's grid is in a test's range.
-    let linear = Linear::new(list.grid()).unwrap();
+    let linear = Linear::over(list);
     block(text, b"linear\n", &linear, list, sheet)?;
     let either = Either {
         first: linear,

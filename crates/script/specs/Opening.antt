@@ -33,4 +33,4 @@ abbrev pub Opened : List (List ℕ) → Result Headings OpeningError → List (L
 Opened lines (Ok h) left =
     Headed lines (vec_items h.sheet) (proposed h.plan) h.fit.test h.fit.cost h.start × (left ≡ drop 4 lines)
 Opened lines (Err (NotUnderstood number)) left = Unheaded lines number
-Opened lines (Err OutOfMemory) left = Unit {0}
+Opened lines (Err (OutOfMemory error)) left = Unit {0}

@@ -20,7 +20,6 @@ use fit::question::FitTest;
 use fit::surcharge::Surcharge;
 use plan::place::place;
 use std::alloc::{AllocError, Global};
-use std::io;
 use tasks::list::TaskList;
 use tasks::table::MOST_TASKS;
 use words::lines::Lines;
@@ -63,24 +62,16 @@ fn play_at_cost<T: FitTest + Drop>(
     play(list, headings, &test, entries)
 }
 
-// The linear test over the list's grid.
-fn linear_over(list: &TaskList) -> Linear
-    ensures { result.grid ≡ list.now.grid }
-{
-    // A list's grid is in a test's range.
-    Linear::new(list.grid()).unwrap()
-}
-
 // The same under the test that the headings name. No `dyn FitTest`: the surcharge holds the test that is below it.
 fn play_named(list: &TaskList, headings: &Headings, entries: &mut [Entry]) -> Result<(), BoardFault>
     ensures { Named headings.now.fit.test headings.now.fit.cost list.now.grid list.now.lanes (tasks_of list.now) (proposed headings.now.plan) headings.now.start entries.old result entries.new }
 {
     match headings.fit.test {
-        TestName::Linear => play_at_cost(list, headings, linear_over(list), entries),
+        TestName::Linear => play_at_cost(list, headings, Linear::over(list), entries),
         TestName::Exact => play_at_cost(list, headings, Exact, entries),
         TestName::Either => {
             let either = Either {
-                first: linear_over(list),
+                first: Linear::over(list),
                 second: Exact,
             };
             play_at_cost(list, headings, either, entries)
@@ -98,7 +89,7 @@ pub(crate) fn run(headings: &Headings, entries: &mut [Entry]) -> Result<(), Boar
 }
 
 // Adds what is printed after the headings.
-fn add_day(text: &mut Vec<u8>, headings: &Headings, lines: Lines) -> io::Result<()>
+fn add_day(text: &mut Vec<u8>, headings: &Headings, lines: Lines) -> Result<(), AllocError>
     ensures { OnOk result (DayText headings.now (lines_left lines.entry) text.old.items text.new.items) }
 {
     let Session { mut entries, stop } = read_calls(*text.allocator(), lines)?;
@@ -114,14 +105,14 @@ fn add_day(text: &mut Vec<u8>, headings: &Headings, lines: Lines) -> io::Result<
 }
 
 // Adds what is printed for this input.
-fn add_replay(text: &mut Vec<u8>, input: &[u8]) -> io::Result<()>
+fn add_replay(text: &mut Vec<u8>, input: &[u8]) -> Result<(), AllocError>
     ensures { OnOk result (text.old.items ≡ [] → Replay input.now text.new.items) }
 {
     let mut lines = Lines::of(input);
     match read_opening(*text.allocator(), &mut lines) {
         Ok(headings) => add_day(text, &headings, lines),
         Err(OpeningError::NotUnderstood(line)) => not_understood(text, line),
-        Err(OpeningError::OutOfMemory) => Err(io::Error::from(AllocError)),
+        Err(OpeningError::OutOfMemory(error)) => Err(error),
     }
 }
 
@@ -130,8 +121,7 @@ pub fn replay(heap: Global, input: &[u8]) -> Result<Vec<u8>, AllocError>
     ensures { IfOk result (λ text. Replay input.now text.items) }
 {
     let mut text = Vec::new(heap);
-    // Writing to memory fails for want of memory alone.
-    add_replay(&mut text, input).map_err(|_| AllocError)?;
+    add_replay(&mut text, input)?;
     Ok(text)
 }
 

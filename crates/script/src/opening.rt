@@ -23,14 +23,15 @@ pub struct Headings {
 pub enum OpeningError {
     // The line with this number, counted from 1, is missing or is not the heading that stands there.
     NotUnderstood(usize),
-    OutOfMemory,
+    // No memory was found.
+    OutOfMemory(AllocError),
 }
 
 impl From<AllocError> for OpeningError {
-    ghost from_gives = { λ _ error. error ≡ OutOfMemory };
+    ghost from_gives = { λ error r. r ≡ OutOfMemory error };
 
-    fn from(_error: AllocError) -> OpeningError {
-        OpeningError::OutOfMemory
+    fn from(error: AllocError) -> OpeningError {
+        OpeningError::OutOfMemory(error)
     }
 }
 

@@ -8,7 +8,6 @@ use crate::calls::call;
 use crate::texts::answered;
 use board::call::Entry;
 use std::alloc::{AllocError, Global};
-use std::io;
 use words::lines::Lines;
 
 // The calls of a day, up to the first line that is none, each with the place for its answer.
@@ -41,7 +40,11 @@ pub(crate) fn read_calls(heap: Global, lines: Lines) -> Result<Session, AllocErr
 }
 
 // Adds each line with its answer, up to the first entry that has none.
-pub(crate) fn add_answers(text: &mut Vec<u8>, lines: Lines, entries: &[Entry]) -> io::Result<()>
+pub(crate) fn add_answers(
+    text: &mut Vec<u8>,
+    lines: Lines,
+    entries: &[Entry],
+) -> Result<(), AllocError>
     ensures { OnOk result (text.new.items ≡ text.old.items ++ answer_lines (lines_left lines.entry) (given_in entries.now)) }
 {
     for (entry, line) in entries.iter().zip(lines) {

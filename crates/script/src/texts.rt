@@ -1,12 +1,13 @@
-// The lines that answer a recorded day.
+// The lines that answer a recorded day. They are formatted apart and not by `write!` into the text: a writer's error says more than that
+// no memory was found, and a day's text fails for nothing else.
 ghost use Rattle.std.specs.Prelude.{◌≡◌, ◌++◌, OnOk, Some};
 ghost use Rattle.board.specs.Codes.{number, place};
 ghost use Rattle.script.specs.Texts.{answer_line, answer_text, not_understood_line, refused_line, set_up_line};
 
 use board::call::Answer;
 use board::fault::BoardFault;
-use std::io::Write;
-use std::{fmt, io};
+use std::alloc::AllocError;
+use std::fmt;
 
 // An answer, as it is printed. The answer itself is of another crate.
 #[derive(Clone, Copy)]
@@ -31,33 +32,36 @@ impl fmt::Display for Printed {
 }
 
 // Adds the line of a call and its answer.
-pub(crate) fn answered(text: &mut Vec<u8>, line: &[u8], given: Answer) -> io::Result<()>
+pub(crate) fn answered(text: &mut Vec<u8>, line: &[u8], given: Answer) -> Result<(), AllocError>
     ensures { OnOk result (text.new.items ≡ text.old.items ++ answer_line line.now given) }
 {
     text.extend_from_slice(line)?;
     let printed = Printed(given);
-    writeln!(text, " = {printed}")
+    let words = format!(in *text.allocator(); " = {printed}\n")?;
+    text.extend_from_slice(words.as_bytes())
 }
 
 // Adds the line for a board that was set up.
-pub(crate) fn set_up(text: &mut Vec<u8>) -> io::Result<()>
+pub(crate) fn set_up(text: &mut Vec<u8>) -> Result<(), AllocError>
     ensures { OnOk result (text.new.items ≡ text.old.items ++ set_up_line) }
 {
-    writeln!(text, "set up = ok")
+    text.extend_from_slice(b"set up = ok\n")
 }
 
 // Adds the line for a board that was not set up.
-pub(crate) fn not_set_up(text: &mut Vec<u8>, fault: BoardFault) -> io::Result<()>
+pub(crate) fn not_set_up(text: &mut Vec<u8>, fault: BoardFault) -> Result<(), AllocError>
     ensures { OnOk result (text.new.items ≡ text.old.items ++ refused_line (number fault) (place fault)) }
 {
     let number = fault.number();
     let place = fault.place();
-    writeln!(text, "set up = refused {number} {place}")
+    let words = format!(in *text.allocator(); "set up = refused {number} {place}\n")?;
+    text.extend_from_slice(words.as_bytes())
 }
 
 // Adds the line that names a line of the input.
-pub(crate) fn not_understood(text: &mut Vec<u8>, line: usize) -> io::Result<()>
+pub(crate) fn not_understood(text: &mut Vec<u8>, line: usize) -> Result<(), AllocError>
     ensures { OnOk result (text.new.items ≡ text.old.items ++ not_understood_line line) }
 {
-    writeln!(text, "line {line} is not understood")
+    let words = format!(in *text.allocator(); "line {line} is not understood\n")?;
+    text.extend_from_slice(words.as_bytes())
 }

@@ -14,4 +14,4 @@ pub returns : goal.returns
 returns c =
     let read = c.in_ok-read.ensures in
     placed_list c.args.sheet.now c.read.new.self read.0 read.1 read.2 c.args.plan.now
-    c.either_over.result.first.grid (c.either_over.ensures ∙ c.grid.ensures) c.place.result c.place.new.plan c.place.ensures
+    c.either_over.result.first.grid c.either_over.ensures c.place.result c.place.new.plan c.place.ensures

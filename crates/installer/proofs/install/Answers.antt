@@ -16,5 +16,5 @@ returns c =
     let all : c.len-count.result - 0 ≡ length (tasks_of list) = omega arith in
     let room : c.len-count.result - 0 ≤ length c.args.plan.now = omega arith in
     answered c.args.sheet.now c.args.plan.now list read.0 read.1 read.2
-    c.in-Ok.test.grid (c.in-Ok.ensures.1 ∙ c.grid.ensures)
+    c.over.result.grid c.over.ensures
     (c.len-count.result - 0) all room c.place.new.plan c.place.result c.place.ensures

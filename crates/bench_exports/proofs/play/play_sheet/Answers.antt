@@ -34,7 +34,7 @@ returns-in_err-prepare c =
     let fault = c.in_err-prepare.field-0.0 in
     let p = err_from_is_err_and c.from_residual-in_err-prepare.result c.from_residual-in_err-prepare.ensures.1 in
     rw (p.1, p.2) (refused list.grid list.lanes read.0 fault placed b read.1
-    (from_new list.grid c.either_over.result.first.grid (c.either_over.ensures ∙ c.grid.ensures) sheet c.args.plan.now c.args.start
+    (from_new list.grid c.either_over.result.first.grid c.either_over.ensures sheet c.args.plan.now c.args.start
     (view c.new-board.result) c.new-board.ensures (Err fault) placed b c.in_err-prepare.ensures))
 
 pub returns : goal.returns
@@ -45,5 +45,5 @@ returns c =
     let placed = c.prepare.new.plan in
     let b = view c.prepare.new.board in
     rw c.play.ensures (answered list.grid list.lanes read.0 placed b read.1
-    (from_new list.grid c.either_over.result.first.grid (c.either_over.ensures ∙ c.grid.ensures) sheet c.args.plan.now c.args.start
+    (from_new list.grid c.either_over.result.first.grid c.either_over.ensures sheet c.args.plan.now c.args.start
     (view c.new-board.result) c.new-board.ensures (Ok tt) placed b c.in_ok-prepare.ensures))

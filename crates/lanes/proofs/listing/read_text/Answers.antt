@@ -5,7 +5,6 @@ use Rattle.lanes.proofs.listing.read_text.Goals as goal
 
 pub returns : goal.returns
 returns c =
-    let held = rw c.unwrap-linear.ensures at c.new.ensures in
     on_ok_weaker c.block-2.result
-    (whole_text c.args.sheet.now c.args.list.now (vec_items c.args.text.now) (vec_items c.summary.new.text) (vec_items c.block.new.text) (vec_items c.block-2.new.text) c.len.result c.lanes.result c.grid.result c.unwrap-linear.result.grid c.len.ensures c.lanes.ensures c.grid.ensures (held.1 ∙ c.grid-2.ensures) c.in_ok-summary.ensures c.in_ok-block.ensures)
+    (whole_text c.args.sheet.now c.args.list.now (vec_items c.args.text.now) (vec_items c.summary.new.text) (vec_items c.block.new.text) (vec_items c.block-2.new.text) c.len.result c.lanes.result c.grid.result c.over-linear.result.grid c.len.ensures c.lanes.ensures c.grid.ensures c.over-linear.ensures c.in_ok-summary.ensures c.in_ok-block.ensures)
     c.block-2.ensures

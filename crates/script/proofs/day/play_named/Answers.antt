@@ -9,8 +9,8 @@ pub returns-in-Linear : goal.returns-in-Linear
 returns-in-Linear c =
     let list = c.args.list.now in
     let h = c.args.headings.now in
-    by_name Linear h.fit.test h.fit.cost c.linear_over.result.grid list.grid list.lanes (tasks_of list) (proposed h.plan) h.start c.args.entries.now c.play_at_cost.result c.play_at_cost.new.entries
-    c.in-Linear.is c.linear_over.ensures c.play_at_cost.ensures
+    by_name Linear h.fit.test h.fit.cost c.over.result.grid list.grid list.lanes (tasks_of list) (proposed h.plan) h.start c.args.entries.now c.play_at_cost.result c.play_at_cost.new.entries
+    c.in-Linear.is c.over.ensures c.play_at_cost.ensures
 
 pub returns-in-Exact : goal.returns-in-Exact
 returns-in-Exact c =
