@@ -73,12 +73,7 @@ impl Jobs {
 
     // Takes a job of the task that is released at this clock, unless four wait. Its lane looks anew.
     // The seats are lent and no field: the board's invariant ties both, and would have to hold after `post` on the queue alone.
-    pub(crate) fn post(
-        &mut self,
-        seats: &Seats,
-        number: usize,
-        clock: u64,
-    ) -> Result<(), Full<u64>>
+    pub(crate) fn post(&mut self, seats: &Seats, number: usize, clock: u64) -> Result<(), Full<u64>>
         requires inside { number < length (tasks_on seats.now) }
         requires in_time { clock ≤ clock_end }
         requires no_later { unwrap_or (stands_at (map standing self.old.queues) number).last 0 ≤ clock }
