@@ -13,13 +13,13 @@ use Rattle.tasks.specs.declared.record.TaskRecord.{TaskRecord}
 pub share-bound : (grid : ℕ) (t : TaskRecord) → Bounded widest_grid t → share grid t ≤ grid
 share-bound grid t h = omega (arith, mul-le t.work (grid / t.gap) t.gap (grid / t.gap) h.0.2 (omega arith), div-add-mod' grid t.gap)
 
-pub line-bound : (grid time : ℕ) (t : TaskRecord) → GridRange grid → time ≤ 2 ^ 20 → Bounded widest_grid t → line grid time t ≤ 2 ^ 45
-line-bound grid time t g s h =
-    omega (arith, mul-le grid t.work (2 ^ 24) (2 ^ 20) g.1 (omega arith), mul-le (share grid t) time (2 ^ 24) (2 ^ 20) (omega (arith, share-bound grid t h)) s)
+pub line-bound : (grid time : ℕ) → GridRange grid → time ≤ 2 ^ 32 → (t : TaskRecord) → Bounded widest_grid t → line grid time t ≤ 2 ^ 57
+line-bound grid time g s t h =
+    omega (arith, mul-le grid t.work (2 ^ 24) (2 ^ 20) g.1 (omega arith), mul-le (share grid t) time (2 ^ 24) (2 ^ 32) (omega (arith, share-bound grid t h)) s)
 
-pub requests-bound : (time : ℕ) → time ≤ 2 ^ 20 → (t : TaskRecord) → Bounded widest_grid t → requests time t ≤ 2 ^ 40
+pub requests-bound : (time : ℕ) → time ≤ 2 ^ 32 → (t : TaskRecord) → Bounded widest_grid t → requests time t ≤ 2 ^ 52
 requests-bound time s t h =
-    mul-le (rounded_up time t.gap) t.work (2 ^ 20) (2 ^ 20) ((rounding_up_covers time t.gap (omega arith)).least (2 ^ 20) (omega (arith, h))) (omega arith)
+    mul-le (rounded_up time t.gap) t.work (2 ^ 32) (2 ^ 20) ((rounding_up_covers time t.gap (omega arith)).least (2 ^ 32) (omega (arith, h))) (omega arith)
 
 -- A row of at most 31 tasks, of each of which some number is at most m.
 pub sum-bound : (f : TaskRecord → ℕ) (m : ℕ) (row : List TaskRecord) → length row ≤ 31 → All (Bounded widest_grid) row

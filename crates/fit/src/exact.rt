@@ -18,18 +18,17 @@ pub fn rounding_up_covers()
 {}
 
 // The most work that a task asks for within a time.
+// Of a record and not a `Task`, to make which would test the bounds of every task again.
 fn requests_of(time: u32, t: TaskRecord) -> u64
-    requires in_time { time ≤ 2 ^ 20 }
-    requires bounded { Bounded widest_grid t }
+    requires { Bounded widest_grid t }
     ensures value { result ≡ requests time t }
-    ensures bound { result ≤ 2 ^ 40 }
+    ensures bound { result ≤ 2 ^ 52 }
 {
     time.div_ceil(t.gap) as u64 * t.work as u64
 }
 
 // The most work that the asked task, once, and the row ask for within a time.
 fn demand(question: &Question, time: u32) -> u64
-    requires { time ≤ 2 ^ 20 }
     ensures { result ≡ question.now.asked.work + sum_by (requests time) question.now.row.now }
 {
     let row: u64 = question.row.iter().map(|t| requests_of(time, *t)).sum();

@@ -50,6 +50,7 @@ impl Linear {
     }
 
     // A task's share of the lane, in parts of the grid: at most the whole.
+    // Of a record and not a `Task`, to make which would test the bounds of every task again.
     fn share_of(&self, t: TaskRecord) -> u64
         requires { Bounded widest_grid t }
         ensures value { result ≡ share self.now.grid t }
@@ -60,10 +61,9 @@ impl Linear {
 
     // The bound on the work that a task asks for within a time, in parts of the grid.
     fn line_of(&self, t: TaskRecord, time: u32) -> u64
-        requires in_time { time ≤ 2 ^ 20 }
-        requires bounded { Bounded widest_grid t }
+        requires { Bounded widest_grid t }
         ensures value { result ≡ line self.now.grid time t }
-        ensures bound { result ≤ 2 ^ 45 }
+        ensures bound { result ≤ 2 ^ 57 }
     {
         let work = self.grid as u64 * t.work as u64;
         work + self.share_of(t) * time as u64

@@ -51,6 +51,7 @@ impl<T: FitTest> Surcharge<T> {
     }
 
     // Whether a task's raised work passes neither its limit nor its gap.
+    // Of a record and not a `Task`, to make which would test the bounds of every task again.
     fn has_room(&self, t: TaskRecord) -> bool
         requires { Bounded widest_grid t }
         ensures { Decides result (Room self.now.cost t) }

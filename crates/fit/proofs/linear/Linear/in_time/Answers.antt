@@ -1,4 +1,4 @@
--- The lines of the row are below 2^45 each.
+-- The lines of the row are at most 2^57 each.
 use Rattle.std.proofs.Common.{◌≡◌, ◌^◌, rules, sum_by, arith}
 use Rattle.fit.proofs.Bounds.{line-bound, sum-bound}
 use Rattle.fit.specs.Tests.{line}
@@ -15,7 +15,7 @@ overflow_add-result c =
         arith,
         is,
         mul-le grid asked.work (2 ^ 24) (2 ^ 20) (omega arith) (omega arith),
-        sum-bound (line grid asked.limit) (2 ^ 45) c.args.question.now.row.now (omega arith) c.args.question.now.row_bounded
-            (λ t bounded. line-bound grid asked.limit t c.args.self.now.in_range (omega arith) bounded),
+        sum-bound (line grid asked.limit) (2 ^ 57) c.args.question.now.row.now (omega arith) c.args.question.now.row_bounded
+            (line-bound grid asked.limit c.args.self.now.in_range (omega arith)),
       );
     }
