@@ -12,6 +12,7 @@ use tasks::record::TaskRecord;
 
 const CLOCK_END: u64 = 1_099_511_627_776;
 
+// The number and the place of a refusal. Each layer's faults are a type of their own, and so is this in each crate of tests.
 fn refused<T: Drop>(
     rt: &impl Abort,
     answer: Result<T, BoardFault>,

@@ -85,7 +85,8 @@ impl<T: FitTest> Surcharge<T> {
         question
             .row
             .get(place)
-            .map_or_else(TaskRecord::default, |t| self.raised_task(*t))
+            .map(|t| self.raised_task(*t))
+            .unwrap_or_default()
     }
 
     // A question's row with raised works, in the first places of the result. With no heap it is an array of the longest row's length.

@@ -9,6 +9,7 @@ use std::test::Fail;
 use tasks::fault::ListFault;
 use tasks::record::TaskRecord;
 
+// Shorter than the literal, for the tables; each crate of tests has its own.
 fn task(work: u32, limit: u32, gap: u32) -> TaskRecord {
     TaskRecord { work, limit, gap }
 }

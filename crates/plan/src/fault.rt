@@ -20,7 +20,7 @@ pub enum PlanFault {
 }
 
 impl PlanFault {
-    // The layer that gives the fault.
+    // The layer that gives the fault. As in the other layers, each of which names its own cases: a trait would say as much at each of them.
     pub fn layer(self) -> Layer
         ensures { result ≡ layer self }
     {

@@ -25,6 +25,7 @@ pub fn place<F: FitTest>(list: &TaskList, test: &F, plan: &mut [u8]) -> Result<(
 }
 
 // The lane of each task by first fit, or the first task in order that no lane takes.
+// An array for the most tasks and no `Vec`: the core uses no heap.
 fn first_fit<F: FitTest>(list: &TaskList, test: &F) -> Result<[u8; MOST_TASKS], PlanFault>
     ensures { FirstFitted (F.FitTest.yes test.now) list.now.lanes (tasks_of list.now) result }
 {

@@ -13,6 +13,7 @@ use tasks::record::TaskRecord;
 
 const GRID: u32 = 60;
 
+// Shorter than the literal, for the tables; each crate of tests has its own.
 fn task(work: u32, limit: u32, gap: u32) -> TaskRecord {
     TaskRecord { work, limit, gap }
 }

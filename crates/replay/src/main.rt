@@ -8,6 +8,7 @@ use std::io::{Read, Write};
 // The most bytes of input that are read.
 const MOST_BYTES: u64 = 65_536;
 
+// As in `lanes`: a library that did it would only be handed the program's input, output and bound.
 fn main(rt: HostRuntime) -> io::Result<()> {
     let mut input = Vec::new(rt.alloc());
     rt.stdin().take(MOST_BYTES).read_to_end(&mut input)?;

@@ -9,7 +9,8 @@ mod work;
 pub const MOST_TASKS: usize = 32;
 
 // The first `len` places hold the tasks, in the order of their numbers.
-// An array with a count and no `Vec`: the core uses no heap, and lists are `Copy`.
+// An array with a count and no `Vec`: the core uses no heap. Lists are `Copy`, so no `ArrayVec`, which is not, and no model, whose view would
+// forget the places past the count.
 #[derive(Clone, Copy)]
 pub struct Table {
     places: [TaskRecord; 32],

@@ -16,6 +16,7 @@ const OFFICE: [u8; 58] = [
     0, 5, 0, 0, 0, 12, 0, 0, 0, 12,
 ];
 
+// Shorter than the literal, for the examples; each crate of tests has its own.
 fn numbers(work: u32, limit: u32, gap: u32) -> TaskRecord {
     TaskRecord { work, limit, gap }
 }
@@ -33,6 +34,7 @@ fn task_is(
     Ok(())
 }
 
+// The number and the place of a refusal. Each layer's faults are a type of their own, and so is this in each crate of tests.
 fn refused(
     rt: &impl Abort,
     answer: Result<(), ListFault>,
