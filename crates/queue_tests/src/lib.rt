@@ -13,7 +13,7 @@ pub struct Rank {
     pub number: usize,
 }
 
-// A record of the order by limit alone: two of one limit tie.
+// A record of the order by limit alone. Two of one limit tie though they differ, so it has no order of the library.
 #[derive(Clone, Copy, PartialEq, Eq, Debug)]
 pub struct Ticket {
     pub limit: u32,
