@@ -39,7 +39,7 @@ def functions(path, text):
         clauses = []
         # clauses are `requires name { .. }`; the body is the first brace that follows none
         while True:
-            clause = re.compile(r"\s*(?:->[^{;]*?)?\s*(requires|ensures)\*?\s*[a-z_]*\s*\{").match(text, i)
+            clause = re.compile(r"\s*(?:->(?:\[[^\]]*\]|[^{;\[])*?)?\s*(requires|ensures)\*?\s*[a-z_]*\s*\{").match(text, i)
             brace = (text.find("{", i), text.find(";", i))
             if not clause:
                 break

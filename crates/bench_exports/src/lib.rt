@@ -25,6 +25,7 @@ pub(crate) fn either_over(list: &TaskList) -> Either<Linear, Exact>
 }
 
 // Places a sheet's list by the linear test or else the exact one, into exactly as many plan bytes as it has tasks.
+// A number and no Result: it is C's call.
 #[unsafe(no_mangle)]
 pub extern "C" fn bench_place_either(sheet: &[u8], plan: &mut [u8]) -> u32
     ensures { PlacedEither sheet.now plan.old result plan.new }

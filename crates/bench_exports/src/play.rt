@@ -12,7 +12,7 @@ use tasks::list::TaskList;
 
 // A call in numbers, and the places for its answer. `Playing` in specs/ says what they mean.
 // Numbers and no enums: it is a record of C.
-#[derive(Clone, Copy)]
+#[derive(Clone, Copy, Debug, PartialEq, Eq)]
 #[repr(C)]
 pub struct Line {
     pub call: u32,
@@ -78,6 +78,7 @@ fn play(board: &mut Board, lines: &mut [Line])
 }
 
 // Prepares a board from a sheet by the linear test or else the exact one, at the starting clock, and plays the lines on it.
+// A number and no Result: it is C's call.
 #[unsafe(no_mangle)]
 pub extern "C" fn bench_play(sheet: &[u8], plan: &mut [u8], start: u64, lines: &mut [Line]) -> u32
     ensures { Played sheet.now plan.old start lines.old result plan.new lines.new }

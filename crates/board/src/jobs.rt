@@ -52,7 +52,7 @@ impl Jobs {
         *self.next.get(lane)?
     }
 
-    // The first task in order on the lane with a job that waits. A loop: with `find` a slot took 6 % longer (docs/BENCHMARKS.md).
+    // The first task in order on the lane with a job that waits. A loop: with `find` a slot took 5 % longer (docs/BENCHMARKS.md).
     fn first_waiting(&self, seats: &Seats, lane: usize) -> Option<usize>
         ensures { result ≡ next_task (tasks_on seats.now) (plan_of seats.now) (map standing self.now.queues) lane }
     {

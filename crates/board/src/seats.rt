@@ -9,7 +9,7 @@ mod work;
 
 // The list of tasks, the lane of each by its number, and the tasks' numbers in their order.
 // No seats exist on which some run of a lane makes a task late.
-// Arrays by the task's number and not a map or a list of structs: no heap, and the plan and the order are read as slices.
+// Arrays by the task's number and not a map or a list of structs: no heap, and the order is read as a slice.
 #[derive(Clone, Copy)]
 pub(crate) struct Seats {
     list: TaskList,

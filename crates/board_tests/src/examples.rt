@@ -12,7 +12,8 @@ use tasks::record::TaskRecord;
 
 const CLOCK_END: u64 = 1_099_511_627_776;
 
-// The number and the place of a refusal. Each layer's faults are a type of their own, and so is this in each crate of tests.
+// The number and the place of a refusal, as two arguments: in a list of calls they read better than pairs. Each layer's faults are a type
+// of their own, and so is this in each crate of tests.
 fn refused<T: Drop>(
     rt: &impl Abort,
     answer: Result<T, BoardFault>,

@@ -9,7 +9,7 @@ use std::test::Fail;
 use tasks::fault::ListFault;
 use tasks::record::TaskRecord;
 
-// Shorter than the literal, for the tables; each crate of tests has its own.
+// Shorter than the literal, for the tables. Each crate of tests has its own: `tasks` offers no such call, since three numbers in a row are easily swapped.
 fn task(work: u32, limit: u32, gap: u32) -> TaskRecord {
     TaskRecord { work, limit, gap }
 }
@@ -118,7 +118,7 @@ fn bounds(rt: HostRuntime) -> Result<(), Fail> {
     say(&rt, 4, &[], task(most, most, most), false, false)
 }
 
-// The number and the place of a refusal.
+// The number and the place of a refusal. Each layer's faults are a type of their own, and so is this in each crate of tests.
 fn refused<T: Drop>(rt: &impl Abort, test: Result<T, ListFault>, place: usize) -> Result<(), Fail> {
     let fault = test.err().ok_or("a setting that is not refused")?;
     assert_eq!(rt; fault.number(), 7);

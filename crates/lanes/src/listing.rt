@@ -14,7 +14,7 @@ use std::io;
 use tasks::list::TaskList;
 use tasks::read::name;
 
-// The name of a task of a sheet that spells a list; no bytes if it has none.
+// The name of a task of a sheet that spells a list. No bytes for none, and no Option: a name that is there has bytes, and both are printed alike.
 fn name_bytes<'a>(sheet: &'a [u8], task: usize) -> &'a [u8]
     ensures { NameThere sheet.now task result.now }
 {

@@ -13,7 +13,7 @@ use tasks::record::TaskRecord;
 
 const GRID: u32 = 60;
 
-// Shorter than the literal, for the tables; each crate of tests has its own.
+// Shorter than the literal, for the tables. Each crate of tests has its own: `tasks` offers no such call, since three numbers in a row are easily swapped.
 fn task(work: u32, limit: u32, gap: u32) -> TaskRecord {
     TaskRecord { work, limit, gap }
 }
@@ -46,6 +46,7 @@ fn answered(rt: &impl Abort, answer: Result<(), PlanFault>, wanted: Option<Refus
 fn placed(rt: &impl Abort, lanes: u8, tasks: &[TaskRecord], wanted: &[u8]) -> Result<(), Fail> {
     let test = Linear::new(GRID)?;
     let list = list_of(lanes, tasks)?;
+    // An array with room for four: tests are handed no allocator here.
     let mut bytes = [9; 4];
     assert!(rt; wanted.len() <= 4);
     let plan = &mut bytes[0..wanted.len()];

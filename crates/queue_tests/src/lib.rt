@@ -6,7 +6,7 @@ ghost use Rattle.std.proofs.Common.{rules};
 
 use queue::Ordered;
 
-// A record of the order by limit and number, as a task's.
+// A record of the order by limit and number, as a task's; the queue knows no task.
 #[derive(Clone, Copy, PartialEq, Eq, PartialOrd, Ord, Debug)]
 pub struct Rank {
     pub limit: u32,

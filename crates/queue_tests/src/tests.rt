@@ -1,6 +1,6 @@
 use super::*;
 use crate::ranking::{TooMany, sort};
-use queue::{first, put, take};
+use queue::{Full, first, put, take};
 use std::test::Fail;
 
 fn rank(limit: u32, number: usize) -> Rank {
@@ -16,10 +16,7 @@ fn puts_until_full_and_hands_the_record_back(rt: HostRuntime) -> Result<(), Fail
     let mut places: [Option<Rank>; 2] = [None, None];
     put(&mut places, rank(6, 0))?;
     put(&mut places, rank(4, 1))?;
-    match put(&mut places, rank(12, 2)) {
-        Ok(()) => return Err(Fail::new("a third record found a place among two")),
-        Err(full) => assert_eq!(rt; full.0, rank(12, 2)),
-    }
+    assert_eq!(rt; put(&mut places, rank(12, 2)), Err(Full(rank(12, 2))));
     assert_eq!(rt; take(&mut places), Some(rank(4, 1)));
     assert_eq!(rt; take(&mut places), Some(rank(6, 0)));
     assert_eq!(rt; take(&mut places), None);

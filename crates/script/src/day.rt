@@ -24,7 +24,8 @@ use tasks::list::TaskList;
 use tasks::table::MOST_TASKS;
 use words::lines::Lines;
 
-// Makes the calls on a new board, under a fit test.
+// Makes the calls on a new board, under a fit test. The list, the headings and the entries go down through three functions, each of which
+// adds or takes a part of the test: a struct of them would be taken apart here.
 fn play<F: FitTest>(
     list: &TaskList,
     headings: &Headings,

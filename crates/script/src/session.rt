@@ -11,7 +11,7 @@ use std::alloc::{AllocError, Global};
 use words::lines::Lines;
 
 // The calls of a day, up to the first line that is none, each with the place for its answer.
-#[derive(Drop)]
+#[derive(PartialEq, Eq, Debug, Drop)]
 pub struct Session {
     pub entries: Vec<Entry>,
     // The number of the line that is none, counted from 1, if there is one. The calls begin in line 5.

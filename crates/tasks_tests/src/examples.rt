@@ -1,5 +1,6 @@
 // Sheets and lists by example: what is read, and what each damage is refused with.
 use sheet::fault::Layer;
+use sheet::part::Part;
 use std::process::Abort;
 use std::test::Fail;
 use tasks::fault::ListFault;
@@ -16,7 +17,7 @@ const OFFICE: [u8; 58] = [
     0, 5, 0, 0, 0, 12, 0, 0, 0, 12,
 ];
 
-// Shorter than the literal, for the examples; each crate of tests has its own.
+// Shorter than the literal, for the examples. Each crate of tests has its own: `tasks` offers no such call, since three numbers in a row are easily swapped.
 fn numbers(work: u32, limit: u32, gap: u32) -> TaskRecord {
     TaskRecord { work, limit, gap }
 }
@@ -34,7 +35,8 @@ fn task_is(
     Ok(())
 }
 
-// The number and the place of a refusal. Each layer's faults are a type of their own, and so is this in each crate of tests.
+// The number and the place of a refusal, as two arguments: in a list of calls they read better than pairs. Each layer's faults are a type
+// of their own, and so is this in each crate of tests.
 fn refused(
     rt: &impl Abort,
     answer: Result<(), ListFault>,
@@ -68,14 +70,9 @@ fn with_byte(at: usize, byte: u8) -> [u8; 58] {
     sheet
 }
 
-fn named(rt: &impl Abort, task: usize, wanted: &[u8], place: usize) -> Result<(), Fail> {
-    let Some(part) = name(&OFFICE, task)? else {
-        assert_eq!(rt; wanted.len(), 0);
-        return Ok(());
-    };
-    assert!(rt; part.bytes == wanted);
-    assert_eq!(rt; part.place, place);
-    Ok(())
+// A name of the office's sheet, with the offset of its first byte.
+fn named<'a>(bytes: &'a [u8], place: usize) -> Option<Part<'a>> {
+    Some(Part { bytes, place })
 }
 
 #[test]
@@ -89,9 +86,10 @@ fn office_sheet_is_read(rt: HostRuntime) -> Result<(), Fail> {
     task_is(&rt, &list, 1, numbers(1, 4, 5))?;
     task_is(&rt, &list, 2, numbers(5, 12, 12))?;
     assert!(rt; list.task(3).is_none());
-    named(&rt, 0, b"lock", 21)?;
-    named(&rt, 1, b"journal", 38)?;
-    named(&rt, 2, b"", 0)
+    assert_eq!(rt; name(&OFFICE, 0)?, named(b"lock", 21));
+    assert_eq!(rt; name(&OFFICE, 1)?, named(b"journal", 38));
+    assert_eq!(rt; name(&OFFICE, 2)?, None);
+    Ok(())
 }
 
 #[test]
