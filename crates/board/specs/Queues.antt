@@ -1,7 +1,6 @@
 -- How a task stands, read off its queue, and what the queue's steps leave.
 use Rattle.std.specs.Prelude.{◌≡◌, ℕ, ◌<◌, ◌≤◌, Bool, true, false, List, [], ◌∷◌, map, length, Ok, Err, Result, slice_index_or, slice_set}
 use Rattle.board.specs.Releases.{released_before}
-use Rattle.board.specs.declared.release.Release.{Release}
 use Rattle.board.specs.declared.task_queue.TaskQueue.{TaskQueue}
 use Rattle.fit.specs.Lane.{Job, Standing, after_service, unreleased, with_job}
 use Rattle.queue.specs.InOrder.{in_order}
@@ -9,12 +8,12 @@ use Rattle.queue.specs.Queue.{held}
 use Rattle.tasks.specs.declared.record.TaskRecord.{TaskRecord}
 
 -- The jobs of these releases: only the first has been served.
-abbrev pub unserved : Release → Job
-unserved r = record { release = r.at; served = 0 }
+abbrev pub unserved : ℕ → Job
+unserved r = record { release = r; served = 0 }
 
-abbrev pub jobs_of : ℕ → List Release → List Job
+abbrev pub jobs_of : ℕ → List ℕ → List Job
 jobs_of served [] = []
-jobs_of served (r ∷ rs) = record { release = r.at; served = served } ∷ map unserved rs
+jobs_of served (r ∷ rs) = record { release = r; served = served } ∷ map unserved rs
 
 -- How the task stands: its waiting jobs are those of the queue, in the order of their releases.
 unfoldable pub standing : TaskQueue → Standing

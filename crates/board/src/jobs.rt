@@ -7,7 +7,6 @@ ghost use Rattle.fit.specs.Lane.{unreleased};
 ghost use Rattle.plan.specs.Placing.{lane_of};
 ghost use Rattle.std.specs.Option.{unwrap_or};
 
-use crate::release::Release;
 use crate::seats::Seats;
 use crate::task_queue::TaskQueue;
 use queue::Full;
@@ -74,12 +73,7 @@ impl Jobs {
 
     // Takes a job of the task that is released at this clock, unless four wait. Its lane looks anew.
     // The seats are lent and no field: the board's invariant ties both, and would have to hold after `post` on the queue alone.
-    pub(crate) fn post(
-        &mut self,
-        seats: &Seats,
-        number: usize,
-        clock: u64,
-    ) -> Result<(), Full<Release>>
+    pub(crate) fn post(&mut self, seats: &Seats, number: usize, clock: u64) -> Result<(), Full<u64>>
         requires inside { number < length (tasks_on seats.now) }
         requires in_time { clock ≤ clock_end }
         requires no_later { unwrap_or (stands_at (map standing self.old.queues) number).last 0 ≤ clock }

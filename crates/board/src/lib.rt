@@ -7,7 +7,6 @@ pub mod fault;
 mod jobs;
 pub mod perform;
 pub mod prepare;
-mod release;
 mod seats;
 mod task_queue;
 pub mod theorems;

@@ -5,8 +5,6 @@ ghost use Rattle.board.specs.Releases.{later_than};
 ghost use Rattle.queue.specs.Queue.{count};
 ghost use Rattle.std.specs.Option.{unwrap_or};
 
-use crate::release::Release;
-
 mod work;
 
 // The task's last release, the releases of its waiting jobs, and the slots that the earliest of them was served.
@@ -14,7 +12,7 @@ mod work;
 #[derive(Clone, Copy)]
 pub(crate) struct TaskQueue {
     last: Option<u64>,
-    places: [Option<Release>; 4],
+    places: [Option<u64>; 4],
     served: u32,
     ghost four: { length places ≡ 4 },
     ghost no_later: { count (later_than last) places ≡ 0 },

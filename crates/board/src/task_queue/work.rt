@@ -5,7 +5,6 @@ ghost use Rattle.board.specs.Queues.{TakenIn, after_slot_of, has_job, standing};
 ghost use Rattle.fit.specs.Lane.{unreleased};
 ghost use Rattle.std.specs.Option.{unwrap_or};
 
-use crate::release::Release;
 use crate::task_queue::TaskQueue;
 use queue::{Full, put, take};
 use tasks::record::TaskRecord;
@@ -45,12 +44,12 @@ impl TaskQueue {
     }
 
     // Takes a job that is released at this clock, unless four wait.
-    pub(crate) fn post(&mut self, clock: u64) -> Result<(), Full<Release>>
+    pub(crate) fn post(&mut self, clock: u64) -> Result<(), Full<u64>>
         requires { (clock ≤ clock_end) × (unwrap_or (standing self.old).last 0 ≤ clock) }
         ensures { TakenIn self.old clock result self.new }
     {
         let mut places = self.places;
-        put(&mut places, Release { at: clock })?;
+        put(&mut places, clock)?;
         self.places = places;
         self.last = Some(clock);
         Ok(())
