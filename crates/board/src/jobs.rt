@@ -51,16 +51,15 @@ impl Jobs {
         *self.next.get(lane)?
     }
 
-    // The first task in order on the lane with a job that waits. A loop: with `find` a slot took 5 % longer (docs/BENCHMARKS.md).
+    // The first task in order on the lane with a job that waits.
     fn first_waiting(&self, seats: &Seats, lane: usize) -> Option<usize>
         ensures { result ≡ next_task (tasks_on seats.now) (plan_of seats.now) (map standing self.now.queues) lane }
     {
-        for &number in seats.order() {
-            if self.waits_on(seats, lane, number) {
-                return Some(number);
-            }
-        }
-        None
+        seats
+            .order()
+            .iter()
+            .copied()
+            .find(|&number| self.waits_on(seats, lane, number))
     }
 
     // Whether the task sits on the lane and has a job that waits.
