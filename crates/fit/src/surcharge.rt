@@ -91,8 +91,7 @@ impl<T: FitTest> Surcharge<T> {
 
     // A question's row with raised works, in the first places of the result. With no heap it is an array of the longest row's length.
     fn raised_row(&self, question: &Question) -> [TaskRecord; LONGEST_ROW]
-        ensures len { length result ≡ 31 }
-        ensures front { take (length question.now.row.now) result ≡ map (raised self.now.cost) question.now.row.now }
+        ensures { take (length question.now.row.now) result ≡ map (raised self.now.cost) question.now.row.now }
     {
         array::from_fn(|place| self.raised_at(question, place))
     }

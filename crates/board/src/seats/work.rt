@@ -13,8 +13,7 @@ use tasks::table::MOST_TASKS;
 // The plan's bytes, and zeros behind them.
 fn padded(plan: &[u8]) -> [u8; 32]
     requires { length plan.now ≤ 32 }
-    ensures long { length result ≡ 32 }
-    ensures front { take (length plan.now) result ≡ plan.now }
+    ensures { take (length plan.now) result ≡ plan.now }
 {
     let mut lanes = [0; MOST_TASKS];
     lanes[..plan.len()].copy_from_slice(plan);

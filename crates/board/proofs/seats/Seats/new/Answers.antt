@@ -17,7 +17,7 @@ invariant_of-result-clause-on_lanes c =
     λ number h.
     let list = c.args.list.now in
     let tasks = tasks_of list in
-    let is = front (length tasks) c.args.plan.now c.padded.result c.requires.long c.padded.ensures.front in
+    let is = front (length tasks) c.args.plan.now c.padded.result c.requires.long c.padded.ensures in
     let read = get_or-take (length tasks) c.padded.result number 0 h in
     subst (λ (n : ℕ). n < list.lanes) (ap (λ (ns : List ℕ). get_or ns number 0) (sym is) ∙ read) (c.requires.on_lanes number h)
 
@@ -25,7 +25,7 @@ pub invariant_of-result-clause-safe : goal.invariant_of-result-clause-safe
 invariant_of-result-clause-safe c =
     let list = c.args.list.now in
     let tasks = tasks_of list in
-    subst (LanesAreSafe list.lanes tasks) (sym (front (length tasks) c.args.plan.now c.padded.result c.requires.long c.padded.ensures.front)) c.requires.safe
+    subst (LanesAreSafe list.lanes tasks) (sym (front (length tasks) c.args.plan.now c.padded.result c.requires.long c.padded.ensures)) c.requires.safe
 
 pub returns-clause-plan : goal.returns-clause-plan
-returns-clause-plan c = front (length (tasks_of c.args.list.now)) c.args.plan.now c.padded.result c.requires.long c.padded.ensures.front
+returns-clause-plan c = front (length (tasks_of c.args.list.now)) c.args.plan.now c.padded.result c.requires.long c.padded.ensures

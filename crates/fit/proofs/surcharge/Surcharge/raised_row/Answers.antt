@@ -5,8 +5,8 @@ use Rattle.fit.specs.Tests.{raised}
 use Rattle.fit.proofs.Made.{front_is, made_each}
 use Rattle.fit.proofs.surcharge.Surcharge.raised_row.Goals as goal
 
-pub returns-clause-front : goal.returns-clause-front
-returns-clause-front g c =
+pub returns : goal.returns
+returns g c =
     let row = c.args.question.now.row.now in
     let dear = raised c.args.self.now.cost in
     let each : (k : ℕ) → k < length row → get_or c.from_fn.result k no_task ≡ dear (get_or row k no_task) =
