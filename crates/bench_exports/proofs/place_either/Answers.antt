@@ -1,5 +1,4 @@
 -- What place answers for the list that was read.
-use Rattle.std.proofs.Common.{◌∙◌}
 use Rattle.std.proofs.lemmas.Result.{err_from_is_err_and}
 use Rattle.bench_exports.proofs.Read.{placed_list}
 use Rattle.bench_exports.specs.Measured.PlacedEither.{unreadable}

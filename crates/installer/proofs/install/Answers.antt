@@ -1,5 +1,5 @@
 -- The sheet's list is read, there is room for its plan, and what place answers is the call's answer.
-use Rattle.std.proofs.Common.{◌≡◌, ◌-◌, ◌≤◌, length, refl, ◌∙◌, arith}
+use Rattle.std.proofs.Common.{◌≡◌, ◌-◌, ◌≤◌, length, refl, arith}
 use Rattle.installer.proofs.Answers.{answered, too_few}
 use Rattle.tasks.specs.Filling.{tasks_of}
 use Rattle.installer.proofs.install.Goals as goal

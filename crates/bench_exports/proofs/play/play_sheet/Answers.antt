@@ -1,5 +1,5 @@
 -- The lines are played on the board that was prepared.
-use Rattle.std.proofs.Common.{◌≡◌, ℕ, List, [], Ok, Err, Result, ◌∙◌, subst}
+use Rattle.std.proofs.Common.{◌≡◌, ℕ, List, [], Ok, Err, Result, subst}
 use Rattle.std.proofs.lemmas.Result.{err_from_is_err_and}
 use Rattle.board.specs.PlainBoard.{PlainBoard, new_board}
 use Rattle.board.specs.Preparing.{Prepared}

@@ -1,4 +1,4 @@
-use Rattle.std.proofs.Common.{vec_items, ◌∙◌}
+use Rattle.std.proofs.Common.{vec_items}
 use Rattle.lanes.proofs.Texts.{whole_text}
 use Rattle.std.proofs.lemmas.Result.{on_ok_weaker}
 use Rattle.lanes.proofs.listing.read_text.Goals as goal
