@@ -1,8 +1,10 @@
 pub mod Bytes
+pub mod Calls
 pub mod Closing
 pub mod Counted
 pub mod Empty
 pub mod Filling
+pub mod FirstWaiting
 pub mod Judged
 pub mod Kept
 pub mod LaneBytes

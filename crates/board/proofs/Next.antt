@@ -133,7 +133,7 @@ none_past seats lane past ss =
     absurd (omega (arith, on, e, past, seats.list.lane_range.1))))
 
 module _ (tasks : List TaskRecord) (plan : List ℕ) (ss : List Standing) (next : List (Option ℕ)) (are : AreNext tasks plan ss next) where
-  next-is : (lane : ℕ) → lane < 4 → get_or next lane None ≡ next_task tasks plan ss lane
+  pub next-is : (lane : ℕ) → lane < 4 → get_or next lane None ≡ next_task tasks plan ss lane
   next-is lane h = is_same (get_or next lane None) (next_task tasks plan ss lane) (are lane h)
 
   module _ (n : ℕ) (s : Standing) (ss' : List Standing) (is : ss' ≡ set ss n s) where

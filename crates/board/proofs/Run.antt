@@ -36,6 +36,9 @@ after_call_ways P b call accepted refused =
 pub after-accepted : (b : PlainBoard) (call : Call) → refusal b call ≡ None → after_call b call ≡ accepted_board b call
 after-accepted b call none = ap (left_by b call) none
 
+pub after-refused : (b : PlainBoard) (call : Call) (fault : BoardFault) → refusal b call ≡ Some fault → after_call b call ≡ b
+after-refused b call fault some = ap (left_by b call) some
+
 -- No call changes the tasks and the plan: what is so of them stays so.
 module _ (P : List TaskRecord → List ℕ → Type 0) where
   kept_when_accepted : (b : PlainBoard) (call : Call) → P b.tasks b.plan → P (accepted_board b call).tasks (accepted_board b call).plan

@@ -23,13 +23,15 @@ fn requests_of(time: u32, t: TaskRecord) -> u64
     requires { Bounded widest_grid t }
     ensures value { result ≡ requests time t }
     ensures bound { result ≤ 2 ^ 52 }
+    ensures small { time ≤ 2 ^ 20 → result ≤ 2 ^ 40 }
 {
     time.div_ceil(t.gap) as u64 * t.work as u64
 }
 
 // The most work that the asked task, once, and the row ask for within a time.
 fn demand(question: &Question, time: u32) -> u64
-    ensures { result ≡ question.now.asked.work + sum_by (requests time) question.now.row.now }
+    ensures value { result ≡ question.now.asked.work + sum_by (requests time) question.now.row.now }
+    ensures small { time ≤ 2 ^ 20 → result ≤ 2 ^ 46 }
 {
     let row: u64 = question.row.iter().map(|t| requests_of(time, *t)).sum();
     question.asked.work as u64 + row

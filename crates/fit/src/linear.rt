@@ -64,9 +64,27 @@ impl Linear {
         requires { Bounded widest_grid t }
         ensures value { result ≡ line self.now.grid time t }
         ensures bound { result ≤ 2 ^ 57 }
+        ensures small { time ≤ 2 ^ 20 → result ≤ 2 ^ 45 }
     {
         let work = self.grid as u64 * t.work as u64;
         work + self.share_of(t) * time as u64
+    }
+
+    // The shares of a question's row together.
+    fn shares_of(&self, question: &Question) -> u64
+        ensures value { result ≡ sum_by (share self.now.grid) question.now.row.now }
+        ensures bound { result ≤ 31 * widest_grid }
+    {
+        question.row.iter().map(|t| self.share_of(*t)).sum()
+    }
+
+    // The bounds of a question's row together, within the asked task's limit.
+    fn lines_of(&self, question: &Question) -> u64
+        ensures value { result ≡ sum_by (line self.now.grid question.now.asked.limit) question.now.row.now }
+        ensures bound { result ≤ 31 * 2 ^ 45 }
+    {
+        let limit = question.asked.limit;
+        question.row.iter().map(|t| self.line_of(*t, limit)).sum()
     }
 
     // Whether every gap of a question divides the grid.
@@ -84,11 +102,7 @@ impl Linear {
         let asked = question.asked;
         let work = self.grid as u64 * asked.work as u64;
         let room = self.grid as u64 * asked.limit as u64;
-        let lines: u64 = question
-            .row
-            .iter()
-            .map(|t| self.line_of(*t, asked.limit))
-            .sum();
+        let lines = self.lines_of(question);
         work + lines <= room
     }
 
@@ -96,7 +110,7 @@ impl Linear {
     fn shares_fit(&self, question: &Question) -> bool
         ensures { Decides result (share self.now.grid question.now.asked + sum_by (share self.now.grid) question.now.row.now ≤ self.now.grid) }
     {
-        let shares: u64 = question.row.iter().map(|t| self.share_of(*t)).sum();
+        let shares = self.shares_of(question);
         self.share_of(question.asked) + shares <= self.grid as u64
     }
 

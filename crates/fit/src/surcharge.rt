@@ -1,5 +1,5 @@
 // A test over another one: every work is raised by what a switch between jobs costs.
-ghost use Rattle.std.specs.Prelude.{◌≡◌, ℕ, ◌+◌, [], ◌∷◌, ◌++◌, map, length, take, Decides, ◌<◌, slice_index_or};
+ghost use Rattle.std.specs.Prelude.{◌≡◌, ℕ, ◌+◌, [], ◌∷◌, ◌++◌, map, length, take, Decides};
 ghost use Rattle.std.proofs.Common.{subst};
 ghost use Rattle.fit.specs.Tests.{CostRange, Held, Room, SurchargeYes, raised};
 ghost use Rattle.std.specs.List.{AllByRecursion};
@@ -8,12 +8,11 @@ ghost use Rattle.tasks.specs.declared.fault.Setting.TheVariants.{SwitchCost};
 ghost use Rattle.tasks.specs.declared.record.TaskRecord.{TaskRecord};
 ghost use Rattle.fit.specs.Copies.{raised_lane};
 ghost use Rattle.fit.specs.Works.{safe_with_larger_works};
-ghost use Rattle.fit.specs.Lane.{SafeTask, no_task};
+ghost use Rattle.fit.specs.Lane.{SafeTask};
 ghost use Rattle.std.proofs.lemmas.List.{length-map};
 
 use crate::askable::{LONGEST_ROW, Question};
 use crate::question::FitTest;
-use std::array;
 use tasks::fault::{ListFault, Setting};
 use tasks::record::TaskRecord;
 
@@ -78,22 +77,16 @@ impl<T: FitTest> Surcharge<T> {
         question.row.iter().all(|t| self.has_room(*t)) && self.has_room(question.asked)
     }
 
-    // What stands in a place of the row with raised works: past the row's end, a record of zeros.
-    fn raised_at(&self, question: &Question, place: usize) -> TaskRecord
-        ensures { place < length question.now.row.now → result ≡ raised self.now.cost (slice_index_or question.now.row.now place no_task) }
-    {
-        question
-            .row
-            .get(place)
-            .map(|t| self.raised_task(*t))
-            .unwrap_or_default()
-    }
-
-    // A question's row with raised works, in the first places of the result. With no heap it is an array of the longest row's length.
+    // A question's row with raised works, in the first places of the result. With no heap it is an array of the longest row's length, and
+    // no `array::from_fn`, which goes over all its places: most rows are shorter.
     fn raised_row(&self, question: &Question) -> [TaskRecord; LONGEST_ROW]
         ensures { take (length question.now.row.now) result ≡ map (raised self.now.cost) question.now.row.now }
     {
-        array::from_fn(|place| self.raised_at(question, place))
+        let mut dear = [TaskRecord::default(); LONGEST_ROW];
+        for (place, t) in question.row.iter().enumerate() {
+            dear[place] = self.raised_task(*t);
+        }
+        dear
     }
 
     // Whether the test below says yes to a question with raised works.

@@ -13,7 +13,7 @@ abbrev pub name_or_none : Result (Option Part) ListFault → List ℕ
 name_or_none (Ok name) = name_said name
 name_or_none (Err fault) = []
 
-name-is : (bytes : List ℕ) (task : ℕ) (r : Result (Option Part) ListFault) → NameRead bytes task r → NameThere bytes task (name_or_none r)
+pub name-is : (bytes : List ℕ) (task : ℕ) (r : Result (Option Part) ListFault) → NameRead bytes task r → NameThere bytes task (name_or_none r)
 name-is bytes task (Ok name) read grid lanes entries spells inside =
     let same = settled.one_list bytes read.0 grid read.1 lanes read.2 entries read.3 spells in
     read.5.said ∙ ap (λ (es : List Entry). (get_or es task no_entry).name) same.2

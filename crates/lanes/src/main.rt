@@ -6,14 +6,14 @@ mod text;
 
 use listing::listing;
 use std::io;
-use std::io::{Read, Write};
+use std::io::Write;
+use words::input::first_bytes;
 
 // The most bytes of input that are read as a sheet.
-const MOST_BYTES: u64 = 4096;
+const MOST_BYTES: usize = 4096;
 
 fn main(rt: HostRuntime) -> io::Result<()> {
-    let mut input = Vec::new(rt.alloc());
-    rt.stdin().take(MOST_BYTES).read_to_end(&mut input)?;
+    let input = first_bytes(rt.alloc(), rt.stdin(), MOST_BYTES)?;
     let text = listing(rt.alloc(), input.as_slice())?;
     rt.stdout().write_all(&text)
 }

@@ -1,4 +1,3 @@
-pub mod Alike
 pub mod Counts
 pub mod Drains
 pub mod InOrder

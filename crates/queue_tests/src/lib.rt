@@ -1,7 +1,7 @@
 // Tests of the ordered queue, at an order without ties and at one with ties.
 #![tactic(auto)]
 
-ghost use Rattle.queue_tests.specs.Order.{ticket_before};
+ghost use Rattle.queue_tests.specs.Order.{rank_before, ticket_before};
 ghost use Rattle.std.proofs.Common.{rules};
 
 use queue::Ordered;
@@ -13,8 +13,20 @@ pub struct Rank {
     pub number: usize,
 }
 
-// A record of the order by limit alone. Two of one limit tie though they differ, so it has no order of the library.
-#[derive(Clone, Copy, PartialEq, Eq, Debug)]
+impl Ordered for Rank {
+    ghost before = { rank_before };
+
+    ghost one_way = { Prim.search rules };
+
+    ghost chain = { Prim.search rules };
+
+    fn goes_before(&self, other: &Rank) -> bool {
+        self < other
+    }
+}
+
+// A record of the order by limit alone: two of one limit tie though they differ. The library's order, by limit and tag, is another.
+#[derive(Clone, Copy, PartialEq, Eq, PartialOrd, Ord, Debug)]
 pub struct Ticket {
     pub limit: u32,
     pub tag: u8,

@@ -50,6 +50,15 @@ fn points_at_the_first_and_leaves_it_there(rt: HostRuntime) {
 }
 
 #[test]
+fn goes_by_an_order_beside_the_librarys(rt: HostRuntime) {
+    let one = ticket(5, 1);
+    let other = ticket(5, 2);
+    assert!(rt; one < other);
+    assert!(rt; !one.goes_before(&other));
+    assert!(rt; !other.goes_before(&one));
+}
+
+#[test]
 fn gives_each_of_two_that_tie_once(rt: HostRuntime) -> Result<(), Fail> {
     let mut places: [Option<Ticket>; 3] = [None; 3];
     put(&mut places, ticket(5, 1))?;

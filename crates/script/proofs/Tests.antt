@@ -5,7 +5,7 @@ use Rattle.script.specs.declared.headings.FitChoice.{FitChoice}
 use Rattle.script.specs.declared.headings.TestName.{TestName}
 use Rattle.script.specs.declared.headings.TestName.TheVariants.{Linear, Exact, Either}
 
-no_test : (line : List ℕ) → ((cost : ℕ) → SaysFit line Linear cost → ⊥) → ((cost : ℕ) → SaysFit line Exact cost → ⊥) → ((cost : ℕ) → SaysFit line Either cost → ⊥)
+pub no_test : (line : List ℕ) → ((cost : ℕ) → SaysFit line Linear cost → ⊥) → ((cost : ℕ) → SaysFit line Exact cost → ⊥) → ((cost : ℕ) → SaysFit line Either cost → ⊥)
     → (test : TestName) (cost : ℕ) → SaysFit line test cost → ⊥
 no_test line linear exact either Linear = linear
 no_test line linear exact either Exact = exact

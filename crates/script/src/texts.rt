@@ -1,32 +1,35 @@
-// The lines that answer a recorded day. They are formatted apart and not by `write!` into the text: a writer's error says more than that
-// no memory was found, and a day's text fails for nothing else.
-ghost use Rattle.std.specs.Prelude.{◌≡◌, ◌++◌, OnOk, Some};
+// The lines that answer a recorded day. They are written into the text itself: to format each apart takes an allocation more for every
+// line of a day.
+ghost use Rattle.std.specs.Prelude.{◌≡◌, ◌++◌, OnOk, is_ok};
 ghost use Rattle.board.specs.Codes.{number, place};
 ghost use Rattle.script.specs.Texts.{answer_line, answer_text, not_understood_line, refused_line, set_up_line};
 
 use board::call::Answer;
 use board::fault::BoardFault;
 use std::alloc::AllocError;
-use std::fmt;
+use std::io;
+use std::io::Write;
 
-// An answer, as it is printed. The answer itself is of another crate.
-#[derive(Clone, Copy)]
-pub(crate) struct Printed(pub Answer);
+// A writer's error says more than that no memory was found; one into a `Vec` fails for nothing else.
+fn in_memory(written: io::Result<()>) -> Result<(), AllocError>
+    ensures { is_ok result ≡ is_ok written }
+{
+    written.map_err(|_| AllocError)
+}
 
-impl fmt::Display for Printed {
-    ghost output = { λ printed. Some (answer_text printed.0) };
-
-    fn fmt<W: fmt::Write>(&self, f: &mut fmt::Formatter<W>) -> fmt::Result {
-        match self.0 {
-            Answer::Posted(clock) | Answer::Clock(clock) => write!(f, "{clock}"),
-            Answer::Begun(byte) | Answer::Ended(byte) => write!(f, "{byte}"),
-            Answer::Serving(Some(count)) | Answer::Waiting(count) => write!(f, "{count}"),
-            Answer::Serving(None) => write!(f, "none"),
-            Answer::Refused(fault) => {
-                let number = fault.number();
-                let place = fault.place();
-                write!(f, "refused {number} {place}")
-            }
+// Adds what is printed of an answer. The frequent `none` is copied, not formatted.
+fn answer(text: &mut Vec<u8>, given: Answer) -> Result<(), AllocError>
+    ensures { OnOk result (text.new.items ≡ text.old.items ++ answer_text given) }
+{
+    match given {
+        Answer::Posted(clock) | Answer::Clock(clock) => in_memory(write!(text, "{clock}")),
+        Answer::Begun(byte) | Answer::Ended(byte) => in_memory(write!(text, "{byte}")),
+        Answer::Serving(Some(count)) | Answer::Waiting(count) => in_memory(write!(text, "{count}")),
+        Answer::Serving(None) => text.extend_from_slice(b"none"),
+        Answer::Refused(fault) => {
+            let number = fault.number();
+            let place = fault.place();
+            in_memory(write!(text, "refused {number} {place}"))
         }
     }
 }
@@ -36,9 +39,9 @@ pub(crate) fn answered(text: &mut Vec<u8>, line: &[u8], given: Answer) -> Result
     ensures { OnOk result (text.new.items ≡ text.old.items ++ answer_line line.now given) }
 {
     text.extend_from_slice(line)?;
-    let printed = Printed(given);
-    let words = format!(in *text.allocator(); " = {printed}\n")?;
-    text.extend_from_slice(words.as_bytes())
+    text.extend_from_slice(b" = ")?;
+    answer(text, given)?;
+    text.extend_from_slice(b"\n")
 }
 
 // Adds the line for a board that was set up.
@@ -54,14 +57,12 @@ pub(crate) fn not_set_up(text: &mut Vec<u8>, fault: BoardFault) -> Result<(), Al
 {
     let number = fault.number();
     let place = fault.place();
-    let words = format!(in *text.allocator(); "set up = refused {number} {place}\n")?;
-    text.extend_from_slice(words.as_bytes())
+    in_memory(writeln!(text, "set up = refused {number} {place}"))
 }
 
 // Adds the line that names a line of the input.
 pub(crate) fn not_understood(text: &mut Vec<u8>, line: usize) -> Result<(), AllocError>
     ensures { OnOk result (text.new.items ≡ text.old.items ++ not_understood_line line) }
 {
-    let words = format!(in *text.allocator(); "line {line} is not understood\n")?;
-    text.extend_from_slice(words.as_bytes())
+    in_memory(writeln!(text, "line {line} is not understood"))
 }

@@ -71,7 +71,7 @@ module _ (bytes : List ℕ) (asked : Option ℕ) (sheet : Reader) (list : TaskLi
   count = ap length u.list_is.tasks_are ∙ length-map u.entries numbers_said
 
   -- every record was read
-  pub finished : unread sheet ≡ [] → Scanned bytes asked (Ok (list, name))
+  pub finished : unread sheet ≡ [] → Scanned bytes asked (Ok name) list
   finished none =
       let spells = subst (λ rest. Begins bytes u.grid u.lanes u.entries rest) none u.begins in
       let at_grid = subst (λ g. Begins bytes g u.lanes u.entries []) (sym u.list_is.grid_is) spells in

@@ -23,8 +23,8 @@ abbrev pub Taken : Reader → TaskList → Result (Option Part) ListFault → Re
 Taken sheet list (Ok name) sheet' list' = (e : Entry) × Joined sheet list name sheet' list' e
 Taken sheet list (Err fault) sheet' list' = NoNextTask sheet.at list.grid (tasks_of list) (unread sheet) fault
 
--- The list was read from the bytes, and with it the name of the asked task, if one was asked for and is there.
-abbrev pub Scanned : List ℕ → Option ℕ → Result (TaskList × Option Part) ListFault → Type 0
-Scanned bytes asked (Ok found) =
-    (entries : List Entry) × Spells bytes found.0.grid found.0.lanes entries × (tasks_of found.0 ≡ tasks_said entries) × IfSome asked (λ number. number < length entries → NameOf bytes entries number found.1)
-Scanned bytes asked (Err fault) = Unreadable bytes fault
+-- A list was filled from the bytes, and the name of the asked task found, if one was asked for and is there.
+abbrev pub Scanned : List ℕ → Option ℕ → Result (Option Part) ListFault → TaskList → Type 0
+Scanned bytes asked (Ok name) list =
+    (entries : List Entry) × Spells bytes list.grid list.lanes entries × (tasks_of list ≡ tasks_said entries) × IfSome asked (λ number. number < length entries → NameOf bytes entries number name)
+Scanned bytes asked (Err fault) list = Unreadable bytes fault

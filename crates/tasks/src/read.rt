@@ -30,25 +30,26 @@ fn take_record<'a>(
     Ok(found.name)
 }
 
-// The list that the sheet spells, and the name of the task that was asked for, if one was.
+// Fills the list from the sheet, and hands out the name of the task that was asked for, if one was.
+// The list is lent and no part of the Result: a refusal and a short sheet would take a third longer for its copies.
 fn scan<'a>(
     bytes: &'a [u8],
     asked: Option<usize>,
-) -> Result<(TaskList, Option<Part<'a>>), ListFault>
-    ensures { Scanned bytes.now asked result }
+    list: &mut TaskList,
+) -> Result<Option<Part<'a>>, ListFault>
+    ensures { Scanned bytes.now asked result list.new }
 {
     let mut sheet = Reader::open(bytes)?;
-    let mut list = TaskList::new();
     list.start(sheet.grid(), sheet.lanes())?;
     let mut name = None;
     while !sheet.at_end() {
         let number = list.len();
-        let found = take_record(&mut sheet, &mut list)?;
+        let found = take_record(&mut sheet, list)?;
         if asked == Some(number) {
             name = found;
         }
     }
-    Ok((list, name))
+    Ok(name)
 }
 
 impl TaskList {
@@ -56,7 +57,8 @@ impl TaskList {
     pub fn read(&mut self, bytes: &[u8]) -> Result<(), ListFault>
         ensures { ListRead bytes.now self.old result self.new }
     {
-        let (fresh, _) = scan(bytes, None)?;
+        let mut fresh = TaskList::new();
+        scan(bytes, None, &mut fresh)?;
         *self = fresh;
         Ok(())
     }
@@ -66,7 +68,8 @@ impl TaskList {
 pub fn name<'a>(bytes: &'a [u8], task: usize) -> Result<Option<Part<'a>>, ListFault>
     ensures { NameRead bytes.now task result }
 {
-    let (list, name) = scan(bytes, Some(task))?;
+    let mut list = TaskList::new();
+    let name = scan(bytes, Some(task), &mut list)?;
     if task >= list.len() {
         return Err(ListFault::Sheet(SheetFault::NoTask(task)));
     }

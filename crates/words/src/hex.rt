@@ -3,14 +3,14 @@ ghost use Rattle.std.specs.Prelude.{IfOk, ◌<◌, SomeIff, MatchOption, ℕ};
 ghost use Rattle.std.specs.Char.{digit_value};
 ghost use Rattle.words.specs.Spelling.{HexRead, HexedRead, Pair};
 
-use crate::number::{after, digit_value};
+use crate::number::{after, digit};
 use std::alloc::{AllocError, Global};
 
 // The value of a hexadecimal digit.
 fn hex_digit(byte: u8) -> Option<u8>
     ensures { SomeIff result (digit_value byte < 16) (digit_value byte) }
 {
-    digit_value(byte).filter(|digit| *digit < 16)
+    digit(byte).filter(|value| *value < 16)
 }
 
 // The byte that two digits spell, if both are hexadecimal.

@@ -2,5 +2,6 @@
 #![tactic(auto)]
 
 pub mod hex;
+pub mod input;
 pub mod lines;
 pub mod number;

@@ -3,28 +3,36 @@ ghost use Rattle.std.specs.Prelude.{◌≡◌, ◌+◌, ◌*◌, ◌<◌, ◌≤
 ghost use Rattle.std.specs.Char.{digit_value};
 ghost use Rattle.words.specs.Spelling.{NumberRead, NumberedRead};
 
-// The value of a digit, where letters of either case go on from 9, if the byte is either.
-pub fn digit_value(byte: u8) -> Option<u8>
-    ensures { SomeIff result (digit_value byte < 36) (digit_value byte) }
+// The value of a digit, where letters of either case go on from 9; 36 for what is neither.
+pub fn digit_value(byte: u8) -> u8
+    ensures { result ≡ digit_value byte }
 {
     match byte {
-        b'0'..=b'9' => Some(byte - b'0'),
-        b'A'..=b'Z' => Some(byte - b'A' + 10),
-        b'a'..=b'z' => Some(byte - b'a' + 10),
-        _ => None,
+        b'0'..=b'9' => byte - b'0',
+        b'A'..=b'Z' => byte - b'A' + 10,
+        b'a'..=b'z' => byte - b'a' + 10,
+        _ => 36,
     }
+}
+
+// The value of a digit, if the byte is one.
+pub fn digit(byte: u8) -> Option<u8>
+    ensures { SomeIff result (digit_value byte < 36) (digit_value byte) }
+{
+    Some(digit_value(byte)).filter(|value| *value < 36)
 }
 
 // The value of a decimal number after one more digit, if the byte is one and the value is still at most `most`.
 fn with_digit(value: u64, byte: u8, most: u64) -> Option<u64>
     ensures { SomeIff result ((digit_value byte < 10) × (value * 10 + digit_value byte ≤ most)) (value * 10 + digit_value byte) }
 {
-    let digit = digit_value(byte).filter(|digit| *digit < 10)?;
+    let digit = digit(byte).filter(|value| *value < 10)?;
     let next = value.checked_mul(10)?.checked_add(u64::from(digit))?;
     (next <= most).then_some(next)
 }
 
 // The number that the bytes spell, if they spell one and it is at most `most`.
+#[inline(never)]
 pub fn number(bytes: &[u8], most: u64) -> Option<u64>
     ensures { NumberRead bytes.now most result }
 {
@@ -52,7 +60,8 @@ pub fn after<'a>(line: &'a [u8], word: &[u8]) -> Option<&'a [u8]>
     line.strip_prefix(word)
 }
 
-// The number after the word, if that is the whole line and the number is at most `most`.
+// The number after the word, if that is the whole line and the number is at most `most`. Inlined, since the words are constants.
+#[inline(always)]
 pub fn numbered(line: &[u8], word: &[u8], most: u64) -> Option<u64>
     ensures { NumberedRead line.now word.now most result }
 {

@@ -3,7 +3,6 @@ use Rattle.std.proofs.Common.{◌≡◌, ◌+◌, true, false, ◌||◌, leb, ap
 use Rattle.std.proofs.lemmas.Bool.{or_left, or_right}
 use Rattle.std.proofs.lemmas.Bool.Decides.{nat_tests}
 use Rattle.board.specs.Queues.{standing}
-use Rattle.queue.proofs.Alike.{is_lt-number, take_alike}
 use Rattle.board.proofs.Queue.{goes_on, length_jobs, length-standing, none_later_left, none_rests, releases, slot_ends, waits-none, waits-some}
 use Rattle.board.proofs.task_queue.TaskQueue.serve.Goals as goal
 use Rattle.board.proofs.task_queue.TaskQueue.serve.Goals.{then-is_waiting, else-is_waiting, else-not-said-via-then-not-said+else-self-saturating_sub, else-not-said-via-else-not-said}
@@ -35,7 +34,7 @@ returns-then-self-saturating_sub c =
 
 pub invariant_of-self-2-clause-no_later : goal.invariant_of-self-2-clause-no_later
 invariant_of-self-2-clause-no_later c =
-    none_later_left c.args.self.now.last c.args.self.now.places c.args.self.now.no_later c.take.result c.take.new.places (take_alike is_lt-number _ _ _ c.take.ensures)
+    none_later_left c.args.self.now.last c.args.self.now.places c.args.self.now.no_later c.take.result c.take.new.places c.take.ensures
 
 pub returns : goal.returns
 unfolding standing
@@ -48,5 +47,5 @@ returns c =
           or_right c.args.said (leb c.args.task.work (q.served + 1)) less
       | else-not-said-via-else-not-said w ↦ or_left c.args.said (leb c.args.task.work (q.served + 1)) w.if-not-said.false
     ] in
-    let r = slot_ends c.args.task c.args.said q.last q.served closes q.places c.take.result c.take.new.places (take_alike is_lt-number _ _ _ c.take.ensures) in
+    let r = slot_ends c.args.task c.args.said q.last q.served closes q.places c.take.result c.take.new.places c.take.ensures in
     record { closed = c.is_some.ensures ∙ r.0; after = r.1 }

@@ -1,15 +1,17 @@
--- The array holds the raised task of each place of the row.
-use Rattle.std.proofs.Common.{◌≡◌, ◌<◌, ℕ, rules, length, get_or, arith}
+-- The loop copies the row with raised works.
+use Rattle.std.proofs.Common.{◌∙◌, arith}
+use Rattle.std.proofs.lemmas.List.{length-set}
+use Rattle.fit.specs.Copies.{copy_goes, copy_ends}
 use Rattle.fit.specs.Lane.{no_task}
 use Rattle.fit.specs.Tests.{raised}
-use Rattle.fit.proofs.Made.{front_is, made_each}
 use Rattle.fit.proofs.surcharge.Surcharge.raised_row.Goals as goal
 
+pub loop-place-preserved : goal.loop-place-preserved
+loop-place-preserved g c = (
+  length-set c.loop-place.dear c.loop-place.place c.raised_task.result ∙ c.loop-place.invariant.0,
+  copy_goes (raised c.args.self.now.cost) c.args.question.now.row.now c.loop-place.dear c.loop-place.place no_task c.raised_task.result
+      c.loop-place-test.true (omega (arith, c.loop-place.invariant.0)) c.raised_task.ensures c.loop-place.invariant.1,
+)
+
 pub returns : goal.returns
-returns g c =
-    let row = c.args.question.now.row.now in
-    let dear = raised c.args.self.now.cost in
-    let each : (k : ℕ) → k < length row → get_or c.from_fn.result k no_task ≡ dear (get_or row k no_task) =
-    λ k h. made_each _ _ (λ i y. i < length row → y ≡ dear (get_or row i no_task)) (λ i y q called. search rules) c.from_fn.result no_task 0 31 k
-    c.from_fn.ensures.items.each (omega arith) (omega arith) h in
-    front_is dear row c.from_fn.result no_task no_task (omega (arith, c.from_fn.ensures.items.long)) each
+returns g c = copy_ends (raised c.args.self.now.cost) c.args.question.now.row.now c.loop-place.dear c.loop-place.place (omega arith) c.loop-place.invariant.1
