@@ -13,7 +13,7 @@ use words::input::first_bytes;
 const MOST_BYTES: usize = 4096;
 
 fn main(rt: HostRuntime) -> io::Result<()> {
-    let input = first_bytes(rt.alloc(), rt.stdin(), MOST_BYTES)?;
+    let input = first_bytes(rt.alloc(), &mut rt.stdin(), MOST_BYTES)?;
     let text = listing(rt.alloc(), input.as_slice())?;
     rt.stdout().write_all(&text)
 }

@@ -1,29 +1,27 @@
--- What is read to its end through a buffer and a limit are the first bytes.
-use Rattle.std.proofs.Common.{◌≡◌, ℕ, ◌++◌, ◌<◌, Bool, List, [], take, Some, None, Option, IfSome, if◌then◌else◌, subst, arith}
-use Rattle.std.proofs.lemmas.Bool.{ne_eqb}
-use Rattle.std.specs.Option.{option_map}
-use Rattle.std.specs.Io.Buffered.{reader_buffer, reader_capacity, reader_inner, reader_remaining}
-use Rattle.std.specs.Io.KnownBytes.{prepend_known}
-use Rattle.std.specs.Io.Take.{take_inner, take_limit, take_remaining}
-use Rattle.std.specs.declared.io.buffered.BufReader.{BufReader}
-use Rattle.std.specs.declared.io.traits.Take.{Take}
+-- What one read after the other leaves in the front of a buffer: what the input had first.
+use Rattle.std.proofs.Common.{◌≡◌, ℕ, ◌+◌, ◌-◌, ◌≤◌, List, ◌++◌, length, take, drop, Some, None, Option, sym, ap, ◌∙◌, append_assoc, arith}
+use Rattle.std.proofs.Math.Seq.{take-append-add}
+use Rattle.std.proofs.lemmas.List.{length-append, length-drop, length-take-le, take-append-le}
+use Rattle.std.specs.Io.KnownBytes.{Consumes}
+use borrow.Rule.Slice.PartMut.{post_of, put_mid}
 
-within_limit :
-    (known : Option (List ℕ)) (most : ℕ) (new : List ℕ)
-    → IfSome (prepend_known [] (option_map (take most) known)) (λ xs. new ≡ xs) → IfSome known (λ all. new ≡ take most all)
-within_limit None most new h = tt
-within_limit (Some all) most new h = h
+-- One read more.
+pub more_consumed :
+    (known before after : Option (List ℕ)) (front part : List ℕ) → Consumes known before front → Consumes before after part → Consumes known after (front ++ part)
+more_consumed None before after front part h k = tt
+more_consumed (Some all) None after front part h k = absurd h
+more_consumed (Some all) (Some rest) None front part h k = absurd k
+more_consumed (Some all) (Some rest) (Some left) front part h k = h ∙ ap (λ r. front ++ r) k ∙ sym (append_assoc front part left)
 
-module _ {T A : Type 0} (remaining : T → Option (List ℕ)) (input : T) (most : ℕ) (t : Take T) (r : BufReader (Take T) A) (old new : List ℕ) where
-  pub first_read :
-      take_limit t ≡ most → take_inner t ≡ input → reader_inner r ≡ t → reader_buffer r ≡ [] → 0 < reader_capacity r → old ≡ []
-      → IfSome (reader_remaining (take_remaining remaining) r) (λ xs. new ≡ old ++ xs) → IfSome (remaining input) (λ all. new ≡ take most all)
-  first_read limit inner through empty room none read =
-      let is : Option (List ℕ) → Type 0 = λ known. IfSome known (λ xs. new ≡ xs) in
-      let left = subst (λ (o : List ℕ). IfSome (reader_remaining (take_remaining remaining) r) (λ xs. new ≡ o ++ xs)) none read in
-      let some = subst (λ (z : Bool). is (if z then None else prepend_known (reader_buffer r) (take_remaining remaining (reader_inner r))))
-      (ne_eqb (reader_capacity r) 0 (λ e. omega (arith, e, room))) left in
-      let fresh = subst (λ (b : List ℕ). is (prepend_known b (take_remaining remaining (reader_inner r)))) empty some in
-      let taken = subst (λ (i : Take T). is (prepend_known [] (take_remaining remaining i))) through fresh in
-      let cut = subst (λ (l : ℕ). is (prepend_known [] (option_map (take l) (remaining (take_inner t))))) limit taken in
-      within_limit (remaining input) most new (subst (λ (i : T). is (prepend_known [] (option_map (take most) (remaining i)))) inner cut)
+-- It comes after what was filled before.
+pub filled_more : (a n : ℕ) (xs ys : List ℕ) → a ≤ length xs → n ≤ length ys → take (a + n) (put_mid a (length xs - a) xs ys) ≡ take a xs ++ take n ys
+filled_more a n xs ys inside short =
+    let behind = post_of a (length xs - a) xs in
+    ap (λ m. take (m + n) (put_mid a (length xs - a) xs ys)) (sym (length-take-le a xs inside))
+    ∙ take-append-add (take a xs) (ys ++ behind) n ∙ ap (λ z. take a xs ++ z) (take-append-le n ys behind short)
+
+-- The buffer stays as long as it is.
+pub length-put : (a : ℕ) (xs ys : List ℕ) → a ≤ length xs → length ys ≡ length xs - a → length (put_mid a (length xs - a) xs ys) ≡ length xs
+length-put a xs ys inside part =
+    let k = length xs - a in
+    omega (arith, length-append (take a xs) (ys ++ post_of a k xs), length-append ys (post_of a k xs), length-take-le a xs inside, length-drop a xs, length-drop k (drop a xs))

@@ -1,17 +1,34 @@
 // The bytes of an input, up to a most.
-ghost use Rattle.std.specs.Prelude.{◌≡◌, take, IfOk, IfSome};
+ghost use Rattle.std.specs.Prelude.{◌≡◌, ◌≤◌, length, take, IfOk, IfSome};
 
 use std::alloc::Global;
 use std::io;
-use std::io::{BufReader, Read};
+use std::io::Read;
 
-// The first bytes that the input has. Buffered, so that each read asks for all that may still come: a socket that keeps its messages
-// whole would cut one that is longer than what is asked for.
-pub fn first_bytes<R: Read + Drop>(heap: Global, input: R, most: usize) -> io::Result<Vec<u8>>
-    ensures { IfOk result (λ bytes. IfSome (R.Read.remaining input) (λ all. bytes.items ≡ take most all)) }
+// Fills the buffer from the input, as far as the input goes, and says how far.
+// No `read_to_end`: its first read asks for less than may still come, and cuts a message of a socket that keeps its messages whole;
+// and it goes on after a read that was interrupted, which here is an error.
+fn fill<R: Read>(input: &mut R, buffer: &mut [u8]) -> io::Result<usize>
+    ensures within { IfOk result (λ filled. filled ≤ length buffer.new) }
+    ensures bytes { IfOk result (λ filled. IfSome (R.Read.remaining input.old) (λ all. take filled buffer.new ≡ take (length buffer.new) all)) }
 {
-    let mut bytes = Vec::with_capacity(heap, most.saturating_add(1))?;
-    let input = input.take(most as u64);
-    BufReader::with_capacity(heap, most.max(1), input)?.read_to_end(&mut bytes)?;
+    let mut filled = 0;
+    while filled < buffer.len() {
+        let count = input.read(&mut buffer[filled..])?;
+        if count == 0 {
+            break;
+        }
+        filled += count;
+    }
+    Ok(filled)
+}
+
+// The first bytes that the input has, at most so many.
+pub fn first_bytes<R: Read>(heap: Global, input: &mut R, most: usize) -> io::Result<Vec<u8>>
+    ensures { IfOk result (λ bytes. IfSome (R.Read.remaining input.old) (λ all. bytes.items ≡ take most all)) }
+{
+    let mut bytes = vec![in heap; 0; most]?;
+    let filled = fill(input, bytes.as_mut_slice())?;
+    bytes.truncate(filled);
     Ok(bytes)
 }

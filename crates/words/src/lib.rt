@@ -1,4 +1,4 @@
-// Reading text: its lines, and the words, numbers and bytes that a line spells.
+// Reading text: the first bytes of an input, its lines, and the words, numbers and bytes that a line spells.
 #![tactic(auto)]
 
 pub mod hex;

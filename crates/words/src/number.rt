@@ -3,7 +3,7 @@ ghost use Rattle.std.specs.Prelude.{◌≡◌, ◌+◌, ◌*◌, ◌<◌, ◌≤
 ghost use Rattle.std.specs.Char.{digit_value};
 ghost use Rattle.words.specs.Spelling.{NumberRead, NumberedRead};
 
-// The value of a digit, where letters of either case go on from 9; 36 for what is neither.
+// The value of a digit, where letters of either case go on from 9; 36 for what is neither. It stays beside `digit`, since callers may take it.
 pub fn digit_value(byte: u8) -> u8
     ensures { result ≡ digit_value byte }
 {
@@ -31,7 +31,7 @@ fn with_digit(value: u64, byte: u8, most: u64) -> Option<u64>
     (next <= most).then_some(next)
 }
 
-// The number that the bytes spell, if they spell one and it is at most `most`.
+// The number that the bytes spell, if they spell one and it is at most `most`. Not inlined, so that `numbered` can be.
 #[inline(never)]
 pub fn number(bytes: &[u8], most: u64) -> Option<u64>
     ensures { NumberRead bytes.now most result }
