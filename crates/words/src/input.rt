@@ -1,5 +1,5 @@
 // The bytes of an input, up to a most.
-ghost use Rattle.std.specs.Prelude.{◌≡◌, ◌≤◌, length, take, IfOk, IfSome};
+ghost use Rattle.std.specs.Prelude.{◌≡◌, ◌≤◌, length, take, vec_len, IfOk, IfSome};
 
 use std::alloc::Global;
 use std::io;
@@ -25,7 +25,8 @@ fn fill<R: Read>(input: &mut R, buffer: &mut [u8]) -> io::Result<usize>
 
 // The first bytes that the input has, at most so many.
 pub fn first_bytes<R: Read>(heap: Global, input: &mut R, most: usize) -> io::Result<Vec<u8>>
-    ensures { IfOk result (λ bytes. IfSome (R.Read.remaining input.old) (λ all. bytes.items ≡ take most all)) }
+    ensures within { IfOk result (λ bytes. vec_len bytes ≤ most) }
+    ensures bytes { IfOk result (λ bytes. IfSome (R.Read.remaining input.old) (λ all. bytes.items ≡ take most all)) }
 {
     let mut bytes = vec![in heap; 0; most]?;
     let filled = fill(input, bytes.as_mut_slice())?;
